@@ -1,0 +1,4 @@
+pub mod Exact
+pub mod Codes
+pub mod Table
+pub mod Blocks

@@ -1,0 +1,52 @@
+use borrow.Author.Tests.{ltb-true}
+use borrow.Author.Needs.{needs}
+use borrow.Author.Count.{below-more}
+use lib.ListN.{length, getD}
+use mathlib.Core.List.{List}
+use lib.Bits.{bitOr, or-add-and, and-le-l, and-le-r}
+use native.Mathlib.Nat.{le-trans, lt-of-le-of-lt}
+use native.Mathlib.Omega.{arith}
+use Prim.Native.Nat.{ℕ, _≤_, _<_, _+_, _-_}
+use Rattle.text.proofs.is_ascii.Statement.{statement}
+use Rattle.text.proofs.is_ascii.Tie as tie
+
+or-l : (a b : ℕ) → a ≤ bitOr a b
+or-l a b = omega (arith, or-add-and a b, and-le-r a b)
+
+or-r : (a b : ℕ) → b ≤ bitOr a b
+or-r a b = omega (arith, or-add-and a b, and-le-l a b)
+
+gathered : (s : List ℕ) (a i bits : ℕ) → ((k : ℕ) → a ≤ k → k < i → getD s k 0 ≤ bits) → (k : ℕ) → a ≤ k → k < i + 1 → getD s k 0 ≤ bitOr bits (getD s i 0)
+gathered s a i bits all k l u =
+    below-more (λ (j : ℕ). a ≤ j → getD s j 0 ≤ bitOr bits (getD s i 0)) i
+    (λ j v m. le-trans (all j m v) (or-l bits (getD s i 0)))
+    (λ m. or-r bits (getD s i 0)) k u l
+
+abbrev Inv-loop : tie.InvT-loop
+Inv-loop s a e bits₀ i₀ bits i = (a ≤ i) × (i ≤ e) × ((k : ℕ) → a ≤ k → k < i → getD s k 0 ≤ bits)
+
+abbrev μ-loop : tie.MeasureT-loop
+μ-loop s a e bits₀ i₀ bits i = e - i
+
+loop-holds : tie.Need-loop-holds Inv-loop μ-loop
+loop-holds c = search needs
+
+shared-slice-read-bits : tie.Need-shared-slice-read-bits Inv-loop μ-loop
+shared-slice-read-bits c = search needs
+
+add-i : tie.Need-add-i Inv-loop μ-loop
+add-i c = search needs
+
+loop-less : tie.Need-loop-less Inv-loop μ-loop
+loop-less c = search needs
+
+loop-again : tie.Need-loop-again Inv-loop μ-loop
+loop-again c = (search needs, search needs, gathered (c .before .before .before .args .s .now) (c .before .before .before .args .a) (c .before .before .loop .i) (c .before .before .loop .bits) (c .before .before .loop .inv .2))
+
+returns : tie.Need-returns Inv-loop μ-loop
+returns c = λ e k l u. lt-of-le-of-lt (c .before .loop .inv .2 k l (omega arith)) (ltb-true (c .before .loop .bits) 128 e)
+
+pub is-ascii-spec : {M : Type 1} → statement M
+is-ascii-spec =
+    tie.close
+    (tie.spec Inv-loop μ-loop loop-holds shared-slice-read-bits add-i loop-less loop-again returns)

@@ -1,0 +1,4 @@
+pub mod Rfc3629
+pub mod Walk
+pub mod States
+pub mod Private

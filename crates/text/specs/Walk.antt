@@ -1,0 +1,85 @@
+-- The same syntax as an automaton that takes the bytes from left to right, and the test `utf8` that it decides.
+-- That `utf8` is true exactly on RFC 3629's `Utf8` is the theorem `utf8-exact` of proofs/Exact.antt.
+use mathlib.Core.Bool.{Bool, true, false, _&&_}
+use mathlib.Core.List.{List, [], _∷_, foldl}
+use Prim.Native.Nat.{ℕ}
+use lib.Dec.{leb}
+use Rattle.text.specs.Rfc3629.{Range, _to_, only, tail}
+
+infix 70 _⇒_
+-- What the bytes so far leave wanted: nothing, so many bytes of UTF8-tail, or what RFC 3629 wants after one of four
+-- first bytes. After a wrong byte nothing that follows helps.
+pub data State : Type 0 where
+  start : State
+  one : State
+  two : State
+  three : State
+  after-E0 : State
+  after-ED : State
+  after-F0 : State
+  after-F4 : State
+  wrong : State
+
+-- A transition: a byte of the range leads to the state
+pub data Transition : Type 0 where
+  _⇒_ : Range → State → Transition
+
+-- The transitions of each state
+abbrev pub transitions : State → List Transition
+transitions start =
+    0x00 to 0x7F ⇒ start
+    ∷ 0xC2 to 0xDF ⇒ one
+    ∷ only 0xE0 ⇒ after-E0
+    ∷ 0xE1 to 0xEC ⇒ two
+    ∷ only 0xED ⇒ after-ED
+    ∷ 0xEE to 0xEF ⇒ two
+    ∷ only 0xF0 ⇒ after-F0
+    ∷ 0xF1 to 0xF3 ⇒ three
+    ∷ only 0xF4 ⇒ after-F4
+    ∷ []
+transitions one = tail ⇒ start ∷ []
+transitions two = tail ⇒ one ∷ []
+transitions three = tail ⇒ two ∷ []
+transitions after-E0 = 0xA0 to 0xBF ⇒ one ∷ []
+transitions after-ED = 0x80 to 0x9F ⇒ one ∷ []
+transitions after-F0 = 0x90 to 0xBF ⇒ two ∷ []
+transitions after-F4 = 0x80 to 0x8F ⇒ two ∷ []
+transitions wrong = []
+
+-- Whether the byte b lies in the range
+abbrev pub within : Range → ℕ → Bool
+within (lo to hi) b = leb lo b && leb b hi
+
+-- The first state where the test passes, else the second
+abbrev pub pick : Bool → State → State → State
+pick true q r = q
+pick false q r = r
+
+-- The state of the first transition whose range has the byte; wrong where none has it
+abbrev pub follow : List Transition → ℕ → State
+follow [] b = wrong
+follow (r ⇒ q ∷ rest) b = pick (within r b) q (follow rest b)
+
+-- What is wanted after one byte more
+unfoldable pub step : State → ℕ → State
+step q b = follow (transitions q) b
+
+-- What is wanted after the bytes of l, where q was wanted before them
+abbrev pub run : State → List ℕ → State
+run q l = foldl step q l
+
+-- Nothing is wanted
+abbrev pub accepting : State → Bool
+accepting start = true
+accepting one = false
+accepting two = false
+accepting three = false
+accepting after-E0 = false
+accepting after-ED = false
+accepting after-F0 = false
+accepting after-F4 = false
+accepting wrong = false
+
+-- The bytes are UTF-8: nothing is wanted after the last of them
+abbrev pub utf8 : List ℕ → Bool
+utf8 l = accepting (run start l)

@@ -1,0 +1,203 @@
+// Whether bytes are UTF-8, as RFC 3629 defines it: what Rust asks of std::str::from_utf8.
+ghost use mathlib.Core.Path.{_≡_};
+ghost use mathlib.Core.Bool.{true};
+ghost use Prim.Native.Nat.{_+_, _≤_};
+ghost use lib.ListN.{length};
+ghost use Rattle.text.specs.Walk.{run, utf8};
+ghost use Rattle.text.specs.States.{stateOf};
+ghost use Rattle.text.specs.Private.{code, Encodes, Walks, Decodes, Ascii};
+
+mod tables;
+
+use tables::CLASS;
+use tables::NEXT;
+
+// What the bytes walked so far leave wanted: nothing, so many continuation bytes, what may follow one of four first
+// bytes, or nothing that could still come.
+pub enum State {
+    Start,
+    One,
+    Two,
+    Three,
+    AfterE0,
+    AfterED,
+    AfterF0,
+    AfterF4,
+    Wrong,
+}
+
+// How a walk holds the state Start, in which nothing is wanted.
+const START: u64 = 0;
+
+// How many bytes are looked at for ASCII at a time.
+const BLOCK: usize = 64;
+
+// Whether s is UTF-8.
+pub fn is_utf8(s: &[u8]) -> bool
+    ensures { λ r. ⌜ r ≡ utf8 (now (s .entry)) ⌝ }
+{
+    let i = ascii_prefix(s);
+    if i == s.len() {
+        return true;
+    }
+    walk_from(s, i, START) == START
+}
+
+// What is wanted after the bytes of s, where q was wanted before them: s may be a part of a text, and the next part is
+// walked from the answer.
+pub fn walk(q: State, s: &[u8]) -> State
+    ensures { λ r. ⌜ stateOf r ≡ run (stateOf q) (now (s .entry)) ⌝ }
+{
+    state_of(walk_from(s, 0, code_of(q)))
+}
+
+// The walk over s from the place a on, from the state held as q. Each call makes the tables anew on its stack.
+fn walk_from(s: &[u8], a: usize, q: u64) -> u64
+    requires { ⌜ a ≤ length (now s) ⌝ }
+    ensures { λ r. ⌜ Walks (now (s .entry)) a (length (now (s .entry))) q r ⌝ }
+{
+    walk_blocks(&CLASS, &NEXT, s, a, q)
+}
+
+// The same, with the tables. A block of ASCII is passed over where nothing is wanted before it.
+fn walk_blocks(class: &[u8; 256], next: &[u64; 12], s: &[u8], a: usize, q: u64) -> u64
+    requires { ⌜ Encodes (now class) (now next) ⌝ }
+    requires { ⌜ a ≤ length (now s) ⌝ }
+    ensures { λ r. ⌜ Walks (now (s .entry)) a (length (now (s .entry))) q r ⌝ }
+{
+    let n = s.len();
+    let mut x = q;
+    let mut i = a;
+    while BLOCK <= n - i {
+        let e = i + BLOCK;
+        if x != START || !is_ascii(s, i, e) {
+            x = walk_bytes(class, next, s, i, e, x);
+        }
+        i = e;
+    }
+    walk_bytes(class, next, s, i, n, x)
+}
+
+// The walk over the bytes of s from the place a up to e.
+fn walk_bytes(class: &[u8; 256], next: &[u64; 12], s: &[u8], a: usize, e: usize, q: u64) -> u64
+    requires { ⌜ Encodes (now class) (now next) ⌝ }
+    requires { ⌜ (a ≤ e) × (e ≤ length (now s)) ⌝ }
+    ensures { λ r. ⌜ Walks (now (s .entry)) a e q r ⌝ }
+{
+    let mut x = q;
+    let mut i = a;
+    while i < e {
+        let k = class[s[i] as usize] as usize;
+        x = next[k] >> (x % 64);
+        i += 1;
+    }
+    x % 64
+}
+
+// How many bytes at the start of s are ASCII, as far as whole blocks tell: all of them where s is ASCII.
+fn ascii_prefix(s: &[u8]) -> usize
+    ensures { λ r. ⌜ (r ≤ length (now (s .entry))) × Ascii (now (s .entry)) 0 r ⌝ }
+{
+    let n = s.len();
+    if n < BLOCK {
+        if is_ascii_short(s) {
+            return n;
+        }
+        return 0;
+    }
+    let mut i = 0;
+    while BLOCK <= n - i {
+        let e = i + BLOCK;
+        if !is_ascii(s, i, e) {
+            return i;
+        }
+        i = e;
+    }
+    if is_ascii(s, n - BLOCK, n) {
+        return n;
+    }
+    i
+}
+
+// Whether s, which is shorter than a block, is ASCII.
+fn is_ascii_short(s: &[u8]) -> bool
+    requires { ⌜ length (now s) ≤ 64 ⌝ }
+    ensures { λ r. ⌜ (r ≡ true → Ascii (now (s .entry)) 0 (length (now (s .entry)))) ⌝ }
+{
+    let n = s.len();
+    if 32 <= n {
+        return is_ascii_ends(s, 32);
+    }
+    if 16 <= n {
+        return is_ascii_ends(s, 16);
+    }
+    if 8 <= n {
+        return is_ascii_ends(s, 8);
+    }
+    if 4 <= n {
+        return is_ascii_ends(s, 4);
+    }
+    is_ascii(s, 0, n)
+}
+
+// Whether s is ASCII, by its first and its last m bytes, which overlap where s is shorter than both: so the length of s
+// decides no loop.
+fn is_ascii_ends(s: &[u8], m: usize) -> bool
+    requires { ⌜ (m ≤ length (now s)) × (length (now s) ≤ m + m) ⌝ }
+    ensures { λ r. ⌜ (r ≡ true → Ascii (now (s .entry)) 0 (length (now (s .entry)))) ⌝ }
+{
+    let n = s.len();
+    if !is_ascii(s, 0, m) {
+        return false;
+    }
+    is_ascii(s, n - m, n)
+}
+
+// Whether the bytes of s from the place a up to e are ASCII. There is no early exit, so that the compiler can take many
+// bytes at a time.
+fn is_ascii(s: &[u8], a: usize, e: usize) -> bool
+    requires { ⌜ (a ≤ e) × (e ≤ length (now s)) ⌝ }
+    ensures { λ r. ⌜ (r ≡ true → Ascii (now (s .entry)) a e) ⌝ }
+{
+    let mut bits: u8 = 0;
+    let mut i = a;
+    while i < e {
+        bits |= s[i];
+        i += 1;
+    }
+    bits < 128
+}
+
+// The state as a walk holds it: the place of its six bits in a row of NEXT.
+fn code_of(q: State) -> u64
+    ensures { λ r. ⌜ r ≡ code (stateOf q) ⌝ }
+{
+    match q {
+        State::Start => 0,
+        State::One => 6,
+        State::Two => 12,
+        State::Three => 18,
+        State::AfterE0 => 24,
+        State::AfterED => 30,
+        State::AfterF0 => 36,
+        State::AfterF4 => 42,
+        State::Wrong => 48,
+    }
+}
+
+// The state that a walk holds as x.
+fn state_of(x: u64) -> State
+    ensures { λ r. ⌜ Decodes x (stateOf r) ⌝ }
+{
+    match x {
+        0 => State::Start,
+        6 => State::One,
+        12 => State::Two,
+        18 => State::Three,
+        24 => State::AfterE0,
+        30 => State::AfterED,
+        36 => State::AfterF0,
+        42 => State::AfterF4,
+        _ => State::Wrong,
+    }
+}

@@ -7,13 +7,13 @@ use mathlib.Core.Bool.{Bool, true, false}
 use mathlib.Core.Path.{_≡_, refl, sym, ap, _∙_}
 use mathlib.Core.List.{List}
 use lib.Dec.{ltb, eqb}
-use borrow.Author.Tests.{ltb-true, ltb-false}
 use lib.ListN.{length, getD, take}
 use lib.Seq.{take-length}
+use borrow.Author.Tests.{ltb-true, ltb-false}
 use Rattle.text.specs.Walk.{State, start, step, run, accepting, utf8}
 use Rattle.text.specs.Private.{code, Walks, Ascii}
-use Rattle.text.proofs.Exact.{ascii-step}
 use Rattle.text.proofs.Codes.{run-snoc, code-injective, code-accepting}
+use Rattle.text.proofs.Exact.{ascii-step}
 
 -- Two parts that meet or overlap
 pub ascii-join : (s : List ℕ) (a m b e : ℕ) → b ≤ m → Ascii s a m → Ascii s b e → Ascii s a e

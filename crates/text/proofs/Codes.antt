@@ -1,39 +1,47 @@
 -- The codes of the states, and one turn of the walk's loop.
 use Prim.Native.Nat.{ℕ, _+_, _<_, _%_, _/_, _^_}
 use native.Mathlib.Numerals.{add-one}
+use mathlib.Core.Bool.{true}
 use mathlib.Core.Path.{_≡_, refl, sym, ap, _∙_}
 use mathlib.Core.List.{List, [], _∷_}
-use lib.Dec.{eqb}
+use lib.Dec.{ltb, eqb}
 use lib.ListN.{length, take, getD}
 use lib.Seq.{take-suc}
+use borrow.Author.Tests.{ltb-true}
 use Rattle.text.specs.Walk.{State, start, one, two, three, after-E0, after-ED, after-F0, after-F4, wrong, step, run, accepting}
 use Rattle.text.specs.Private.{code, Encodes}
 use Rattle.text.proofs.Exact.{run-append}
 
--- The state with the code n
-abbrev coded : ℕ → State
-coded n = getD (start ∷ one ∷ two ∷ three ∷ after-E0 ∷ after-ED ∷ after-F0 ∷ after-F4 ∷ []) (n / 6) wrong
+-- The states in the order of their codes
+abbrev pub numbered : ℕ → State
+numbered n = getD (start ∷ one ∷ two ∷ three ∷ after-E0 ∷ after-ED ∷ after-F0 ∷ after-F4 ∷ wrong ∷ []) n wrong
 
--- Codes fit into six bits, that of start alone is 0, and no two states share one
-codes : (q : State) → (code q % 64 ≡ code q) × (eqb (code q) 0 ≡ accepting q) × (coded (code q) ≡ q)
-codes start = (refl, refl, refl)
-codes one = (refl, refl, refl)
-codes two = (refl, refl, refl)
-codes three = (refl, refl, refl)
-codes after-E0 = (refl, refl, refl)
-codes after-ED = (refl, refl, refl)
-codes after-F0 = (refl, refl, refl)
-codes after-F4 = (refl, refl, refl)
-codes wrong = (refl, refl, refl)
+-- A code is six times the state's number, fits into six bits, and is 0 for start alone
+codes : (q : State) → (numbered (code q / 6) ≡ q) × (ltb (code q / 6) 9 ≡ true) × (code q % 64 ≡ code q) × (eqb (code q) 0 ≡ accepting q)
+codes start = (refl, refl, refl, refl)
+codes one = (refl, refl, refl, refl)
+codes two = (refl, refl, refl, refl)
+codes three = (refl, refl, refl, refl)
+codes after-E0 = (refl, refl, refl, refl)
+codes after-ED = (refl, refl, refl, refl)
+codes after-F0 = (refl, refl, refl, refl)
+codes after-F4 = (refl, refl, refl, refl)
+codes wrong = (refl, refl, refl, refl)
+
+pub numbered-code : (q : State) → numbered (code q / 6) ≡ q
+numbered-code q = codes q .0
+
+pub number-low : (q : State) → code q / 6 < 9
+number-low q = ltb-true (code q / 6) 9 (codes q .1)
 
 pub code-low : (q : State) → code q % 64 ≡ code q
-code-low q = codes q .0
+code-low q = codes q .2
 
 pub code-accepting : (q : State) → eqb (code q) 0 ≡ accepting q
-code-accepting q = codes q .1
+code-accepting q = codes q .3
 
 pub code-injective : (p q : State) → code p ≡ code q → p ≡ q
-code-injective p q e = sym (codes p .2) ∙ ap coded e ∙ codes q .2
+code-injective p q e = sym (numbered-code p) ∙ ap (λ (n : ℕ). numbered (n / 6)) e ∙ numbered-code q
 
 -- The walk over one byte more
 pub run-snoc : (p : State) (s : List ℕ) (i : ℕ) → i < length s → run p (take (i + 1) s) ≡ step (run p (take i s)) (getD s i 0)

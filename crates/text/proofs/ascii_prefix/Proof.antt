@@ -1,10 +1,11 @@
-use Rattle.text.proofs.Blocks.{ascii-join}
-use Rattle.text.specs.Private.{Ascii}
+-- The blocks passed so far are ASCII; the last one may overlap them.
+use Prim.Native.Nat.{ℕ, _+_, _-_, _≤_}
+use native.Mathlib.Omega.{arith}
+use lib.ListN.{length}
 use borrow.Author.Tests.{not-false}
 use borrow.Author.Needs.{needs}
-use lib.ListN.{length}
-use native.Mathlib.Omega.{arith}
-use Prim.Native.Nat.{ℕ, _+_, _-_, _≤_}
+use Rattle.text.specs.Private.{Ascii}
+use Rattle.text.proofs.Blocks.{ascii-join}
 use Rattle.text.proofs.ascii_prefix.Statement.{statement}
 use Rattle.text.proofs.ascii_prefix.Tie as tie
 

@@ -1,12 +1,13 @@
+-- No byte that was read is above the bits gathered so far.
+use Prim.Native.Nat.{ℕ, _≤_, _<_, _+_, _-_}
+use native.Mathlib.Nat.{le-trans, lt-of-le-of-lt}
+use native.Mathlib.Omega.{arith}
+use mathlib.Core.List.{List}
+use lib.ListN.{length, getD}
+use lib.Bits.{bitOr, or-add-and, and-le-l, and-le-r}
 use borrow.Author.Tests.{ltb-true}
 use borrow.Author.Needs.{needs}
 use borrow.Author.Count.{below-more}
-use lib.ListN.{length, getD}
-use mathlib.Core.List.{List}
-use lib.Bits.{bitOr, or-add-and, and-le-l, and-le-r}
-use native.Mathlib.Nat.{le-trans, lt-of-le-of-lt}
-use native.Mathlib.Omega.{arith}
-use Prim.Native.Nat.{ℕ, _≤_, _<_, _+_, _-_}
 use Rattle.text.proofs.is_ascii.Statement.{statement}
 use Rattle.text.proofs.is_ascii.Tie as tie
 
@@ -23,7 +24,7 @@ gathered s a i bits all k l u =
     (λ m. or-r bits (getD s i 0)) k u l
 
 abbrev Inv-loop : tie.InvT-loop
-Inv-loop s a e bits₀ i₀ bits i = (a ≤ i) × (i ≤ e) × ((k : ℕ) → a ≤ k → k < i → getD s k 0 ≤ bits)
+Inv-loop s a e bits₀ i₀ bits i = (i ≤ e) × ((k : ℕ) → a ≤ k → k < i → getD s k 0 ≤ bits)
 
 abbrev μ-loop : tie.MeasureT-loop
 μ-loop s a e bits₀ i₀ bits i = e - i
@@ -41,10 +42,10 @@ loop-less : tie.Need-loop-less Inv-loop μ-loop
 loop-less c = search needs
 
 loop-again : tie.Need-loop-again Inv-loop μ-loop
-loop-again c = (search needs, search needs, gathered (c .before .before .before .args .s .now) (c .before .before .before .args .a) (c .before .before .loop .i) (c .before .before .loop .bits) (c .before .before .loop .inv .2))
+loop-again c = (search needs, gathered (c .before .before .before .args .s .now) (c .before .before .before .args .a) (c .before .before .loop .i) (c .before .before .loop .bits) (c .before .before .loop .inv .1))
 
 returns : tie.Need-returns Inv-loop μ-loop
-returns c = λ e k l u. lt-of-le-of-lt (c .before .loop .inv .2 k l (omega arith)) (ltb-true (c .before .loop .bits) 128 e)
+returns c = λ e k l u. lt-of-le-of-lt (c .before .loop .inv .1 k l (omega arith)) (ltb-true (c .before .loop .bits) 128 e)
 
 pub is-ascii-spec : {M : Type 1} → statement M
 is-ascii-spec =

@@ -1,8 +1,9 @@
-use borrow.Author.Tests.{not-false}
-use Rattle.text.proofs.Blocks.{ascii-join}
-use mathlib.Core.Bool.{false≢true}
+-- The first and the last m bytes meet.
 use native.Mathlib.Omega.{arith}
+use mathlib.Core.Bool.{false≢true}
+use borrow.Author.Tests.{not-false}
 use borrow.Author.Needs.{needs}
+use Rattle.text.proofs.Blocks.{ascii-join}
 use Rattle.text.proofs.is_ascii_ends.Statement.{statement}
 use Rattle.text.proofs.is_ascii_ends.Tie as tie
 

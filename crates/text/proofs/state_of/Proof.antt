@@ -1,7 +1,8 @@
-use Rattle.text.proofs.Codes.{code-injective}
+-- Each code has one state.
+use mathlib.Core.Path.{_≡_, refl, sym, _∙_}
 use Rattle.text.specs.Private.{code}
 use Rattle.text.specs.Walk.{State, start, one, two, three, after-E0, after-ED, after-F0, after-F4, wrong}
-use mathlib.Core.Path.{_≡_, refl, sym, _∙_}
+use Rattle.text.proofs.Codes.{code-injective}
 use Rattle.text.proofs.state_of.Statement.{statement}
 use Rattle.text.proofs.state_of.Tie as tie
 

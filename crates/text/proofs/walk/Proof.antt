@@ -1,11 +1,12 @@
+-- From a state by way of its code to a state.
+use Prim.Native.Nat.{ℕ}
+use mathlib.Core.Path.{ap, _∙_}
+use mathlib.Core.List.{List}
+use lib.Seq.{take-length}
+use borrow.Author.Needs.{needs}
 use Rattle.text.specs.Private.{code}
 use Rattle.text.specs.States.{stateOf}
 use Rattle.text.specs.Walk.{run}
-use lib.Seq.{take-length}
-use mathlib.Core.Path.{ap, _∙_}
-use mathlib.Core.List.{List}
-use Prim.Native.Nat.{ℕ}
-use borrow.Author.Needs.{needs}
 use Rattle.text.proofs.walk.Statement.{statement}
 use Rattle.text.proofs.walk.Tie as tie
 

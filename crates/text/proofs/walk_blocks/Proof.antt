@@ -1,21 +1,22 @@
-use Rattle.text.proofs.Blocks.{passed}
-use Rattle.text.specs.Private.{Walks}
+-- x is the code of the state after the first i bytes, whether a block was walked or passed over.
+use Prim.Native.Nat.{_+_, _-_, _≤_}
+use native.Mathlib.Omega.{arith}
+use lib.ListN.{length}
 use borrow.Author.Tests.{not-false}
 use borrow.Author.Needs.{needs}
-use lib.ListN.{length}
-use native.Mathlib.Omega.{arith}
-use Prim.Native.Nat.{_+_, _-_, _≤_}
+use Rattle.text.specs.Private.{Walks}
+use Rattle.text.proofs.Blocks.{passed}
 use Rattle.text.proofs.walk_blocks.Statement.{statement}
 use Rattle.text.proofs.walk_blocks.Tie as tie
 
 abbrev Inv-loop : tie.InvT-loop
-Inv-loop class next s a q n x₀ i₀ x i = (a ≤ i) × (i ≤ length s) × Walks s a i q x
+Inv-loop class next s a q n x₀ i₀ x i = (i ≤ length s) × Walks s a i q x
 
 abbrev μ-loop : tie.MeasureT-loop
 μ-loop class next s a q n x₀ i₀ x i = length s - i
 
 loop-holds : tie.Need-loop-holds Inv-loop μ-loop
-loop-holds c = (search needs, search needs, λ p e. e)
+loop-holds c = (search needs, λ p e. e)
 
 sub-loop : tie.Need-sub-loop Inv-loop μ-loop
 sub-loop c = search needs
@@ -33,7 +34,7 @@ loop-less : tie.Need-loop-less Inv-loop μ-loop
 loop-less c = search needs
 
 loop-again : tie.Need-loop-again Inv-loop μ-loop
-loop-again c = (search needs, search needs, λ p e. c .walk-bytes .ensures p (c .before .before .before .loop .inv .2 p e))
+loop-again c = (search needs, λ p e. c .walk-bytes .ensures p (c .before .before .before .loop .inv .1 p e))
 
 loop-less-2 : tie.Need-loop-less-2 Inv-loop μ-loop
 loop-less-2 c = search needs
@@ -41,13 +42,13 @@ loop-less-2 c = search needs
 loop-again-2 : tie.Need-loop-again-2 Inv-loop μ-loop
 loop-again-2 c =
     let i = c .before .before .before .before .loop .i in
-    (search needs, search needs, λ p e. passed (c .before .before .before .before .before .before .args .s .now) i (i + 64) (c .before .before .before .before .loop .x) (omega arith) (omega arith) (c .before .before .if1 .left) (c .before .is-ascii .ensures (not-false _ (c .if2 .left))) p (c .before .before .before .before .loop .inv .2 p e))
+    (search needs, λ p e. passed (c .before .before .before .before .before .before .args .s .now) i (i + 64) (c .before .before .before .before .loop .x) (omega arith) (omega arith) (c .before .before .if1 .left) (c .before .is-ascii .ensures (not-false _ (c .if2 .left))) p (c .before .before .before .before .loop .inv .1 p e))
 
 walk-bytes-requires-2 : tie.Need-walk-bytes-requires-2 Inv-loop μ-loop
 walk-bytes-requires-2 c κs = (c .before .before .before .pre .0, search needs)
 
 returns : tie.Need-returns Inv-loop μ-loop
-returns c = λ p e. c .walk-bytes2 .ensures p (c .before .before .loop .inv .2 p e)
+returns c = λ p e. c .walk-bytes2 .ensures p (c .before .before .loop .inv .1 p e)
 
 pub walk-blocks-spec : {M : Type 1} → statement M
 walk-blocks-spec =

@@ -1,16 +1,17 @@
-use Rattle.text.proofs.Codes.{code-low, turn}
+-- The low six bits of x are the code of the state after the first i bytes.
+use Prim.Native.Nat.{ℕ, _≤_, _<_, _-_, _%_}
+use native.Mathlib.Omega.{arith}
+use mathlib.Core.Path.{_≡_, ap, _∙_}
+use lib.ListN.{length, take, getD}
+use borrow.Author.Needs.{needs}
 use Rattle.text.specs.Private.{code}
 use Rattle.text.specs.Walk.{State, run}
-use borrow.Author.Needs.{needs}
-use lib.ListN.{length, take, getD}
-use mathlib.Core.Path.{_≡_, ap, _∙_}
-use native.Mathlib.Omega.{arith}
-use Prim.Native.Nat.{ℕ, _≤_, _<_, _-_, _%_}
+use Rattle.text.proofs.Codes.{code-low, turn}
 use Rattle.text.proofs.walk_bytes.Statement.{statement}
 use Rattle.text.proofs.walk_bytes.Tie as tie
 
 abbrev Inv-loop : tie.InvT-loop
-Inv-loop class next s a e q x₀ i₀ x i = (a ≤ i) × (i ≤ e) × ((p : State) → q ≡ code (run p (take a s)) → x % 64 ≡ code (run p (take i s)))
+Inv-loop class next s a e q x₀ i₀ x i = (i ≤ e) × ((p : State) → q ≡ code (run p (take a s)) → x % 64 ≡ code (run p (take i s)))
 
 abbrev μ-loop : tie.MeasureT-loop
 μ-loop class next s a e q x₀ i₀ x i = e - i
@@ -20,7 +21,7 @@ class-small : (c : tie.After-k Inv-loop μ-loop) → getD (c .before .before .be
 class-small c = c .before .before .before .before .pre .0 .small _ (omega (arith, c .before .shared-slice-known .given (c .before .before .before .loop .i)))
 
 loop-holds : tie.Need-loop-holds Inv-loop μ-loop
-loop-holds c = (search needs, search needs, λ p e. ap (λ (n : ℕ). n % 64) e ∙ code-low (run p (take (c .args .a) (c .args .s .now))))
+loop-holds c = (search needs, λ p e. ap (λ (n : ℕ). n % 64) e ∙ code-low (run p (take (c .args .a) (c .args .s .now))))
 
 shared-slice-read-k : tie.Need-shared-slice-read-k Inv-loop μ-loop
 shared-slice-read-k c = search needs
@@ -54,12 +55,12 @@ loop-again c =
     let b = c .before .before in
     let s = b .before .before .before .args .s .now in
     let i = b .before .before .loop .i in
-    (search needs, search needs, λ p e. turn (b .before .before .before .pre .0) s i (b .before .before .loop .x) p (search needs) (omega (arith, b .shared-slice-known .given i)) (b .before .before .loop .inv .2 p e))
+    (search needs, λ p e. turn (b .before .before .before .pre .0) s i (b .before .before .loop .x) p (search needs) (omega (arith, b .shared-slice-known .given i)) (b .before .before .loop .inv .1 p e))
 
 returns : tie.Need-returns Inv-loop μ-loop
 returns c =
     let at : c .before .loop .i ≡ c .before .before .args .e = omega arith in
-    λ p e. rw (← at) (c .before .loop .inv .2 p e)
+    λ p e. rw (← at) (c .before .loop .inv .1 p e)
 
 pub walk-bytes-spec : {M : Type 1} → statement M
 walk-bytes-spec =

@@ -1,14 +1,14 @@
-use Rattle.text.proofs.Table.{right, encodes}
-use Rattle.text.specs.Walk.{step}
+-- The tables have their rule: the test of it is computed here.
 use mathlib.Core.Path.{refl}
-use lib.Dec.{lit≤}
 use borrow.Author.Needs.{needs}
+use Rattle.text.specs.Walk.{step}
+use Rattle.text.proofs.Table.{right, encodes}
 use Rattle.text.proofs.walk_from.Statement.{statement}
 use Rattle.text.proofs.walk_from.Tie as tie
 
 walk-blocks-requires : tie.Need-walk-blocks-requires
 unfolding right step
-walk-blocks-requires c κs = (encodes _ _ (lit≤ tt) refl, search needs)
+walk-blocks-requires c κs = (encodes _ _ refl, search needs)
 
 returns : tie.Need-returns
 returns c = search needs

@@ -1,0 +1,142 @@
+//! The text check beside `std::str::from_utf8`: first the answers, then the speed. Built and run by `compare/text [SEED]`.
+use std::hint::black_box;
+use std::time::Instant;
+
+extern "C" {
+    fn pgrxsc_is_text(bytes: *const u8, len: usize) -> bool;
+}
+
+fn ours(text: &[u8]) -> bool {
+    unsafe { pgrxsc_is_text(text.as_ptr(), text.len()) }
+}
+
+fn std(text: &[u8]) -> bool {
+    std::str::from_utf8(text).is_ok()
+}
+
+/// A xorshift generator, so that a seed names a run.
+struct Random(u64);
+
+impl Random {
+    fn next(&mut self) -> u64 {
+        self.0 ^= self.0 << 13;
+        self.0 ^= self.0 >> 7;
+        self.0 ^= self.0 << 17;
+        self.0
+    }
+
+    fn below(&mut self, n: usize) -> usize {
+        (self.next() % n as u64) as usize
+    }
+
+    /// At least `len` bytes of characters, each of one of the sizes.
+    fn text(&mut self, len: usize, sizes: &[usize]) -> Vec<u8> {
+        let mut text = String::new();
+        while text.len() < len {
+            let (first, last) = match sizes[self.below(sizes.len())] {
+                1 => (0x20, 0x7e),
+                2 => (0x80, 0x7ff),
+                3 => (0x800, 0xffff),
+                _ => (0x1_0000, 0x10_ffff),
+            };
+            text.extend(char::from_u32((first + self.below(last - first + 1)) as u32));
+        }
+        text.into_bytes()
+    }
+}
+
+/// Compares the answers on a text and counts it.
+fn compare(text: &[u8], count: &mut u64) {
+    *count += 1;
+    if ours(text) != std(text) {
+        println!("differs: std says {} of {:02x?}", std(text), text);
+        std::process::exit(1);
+    }
+}
+
+/// Every string of `n` bytes whose first byte is one of the given.
+fn exhaust(n: usize, first: std::ops::RangeInclusive<u8>, count: &mut u64) {
+    for lead in first {
+        let mut text = vec![0; n];
+        text[0] = lead;
+        'next: loop {
+            compare(&text, count);
+            for byte in text[1..].iter_mut().rev() {
+                *byte = byte.wrapping_add(1);
+                if *byte != 0 {
+                    continue 'next;
+                }
+            }
+            break;
+        }
+    }
+}
+
+/// Texts of up to 300 bytes with up to three bytes changed.
+fn damage(random: &mut Random, texts: usize, count: &mut u64) {
+    let sizes: [&[usize]; 4] = [&[1], &[1, 1, 1, 1, 1, 1, 1, 1, 2], &[1, 2, 3, 4], &[3]];
+    for _ in 0..texts {
+        let (len, kind) = (random.below(300), random.below(sizes.len()));
+        let mut text = random.text(len, sizes[kind]);
+        text.truncate(len);
+        for _ in 0..random.below(4).min(len) {
+            let at = random.below(len);
+            text[at] = random.next() as u8;
+        }
+        compare(&text, count);
+    }
+}
+
+fn seconds(check: fn(&[u8]) -> bool, texts: &[Vec<u8>], rounds: usize) -> f64 {
+    let start = Instant::now();
+    for _ in 0..rounds {
+        for text in texts {
+            assert!(black_box(check(black_box(text))));
+        }
+    }
+    start.elapsed().as_secs_f64()
+}
+
+fn median(mut times: Vec<f64>) -> f64 {
+    times.sort_by(f64::total_cmp);
+    times[times.len() / 2]
+}
+
+/// Both checks by turns over the same texts: the medians of 31 turns, and how often ours fits into std's.
+fn race(name: &str, texts: Vec<Vec<u8>>, rounds: usize) {
+    let (mut our_times, mut std_times) = (Vec::new(), Vec::new());
+    for _ in 0..31 {
+        our_times.push(seconds(ours, &texts, rounds));
+        std_times.push(seconds(std, &texts, rounds));
+    }
+    let each = |times| median(times) * 1e9 / (texts.len() * rounds) as f64;
+    let (our_time, std_time) = (each(our_times), each(std_times));
+    println!("{name:32} {our_time:12.1} ns {std_time:12.1} ns {:8.2}x", std_time / our_time);
+}
+
+fn main() {
+    let seed = std::env::args().nth(1).map_or(3629, |seed| seed.parse().expect("a number as seed"));
+    let mut random = Random(seed | 1);
+    let mut count = 0;
+    compare(b"", &mut count);
+    for n in 1..=3 {
+        exhaust(n, 0..=255, &mut count);
+    }
+    exhaust(4, 0xf0..=0xf5, &mut count);
+    damage(&mut random, 2_000_000, &mut count);
+    println!("{count} strings compared, no difference (seed {seed})\n");
+
+    println!("{:32} {:>15} {:>15} {:>9}", "a text of", "ours", "std", "ratio");
+    let mib = 1 << 20;
+    race("1 MiB of ASCII", vec![random.text(mib, &[1])], 20);
+    race("1 MiB of 1 to 4 bytes each", vec![random.text(mib, &[1, 2, 3, 4])], 2);
+    race("1 MiB of 2 bytes each", vec![random.text(mib, &[2])], 2);
+    race("1 MiB of 3 bytes each", vec![random.text(mib, &[3])], 2);
+    race("1 MiB of 4 bytes each", vec![random.text(mib, &[4])], 2);
+    for n in [5, 10, 24, 40, 64, 100, 200] {
+        race(&format!("{n} bytes of ASCII"), (0..1000).map(|_| random.text(n, &[1])).collect(), 50);
+    }
+    let lengths: Vec<_> = (0..1000).map(|_| random.below(41)).collect();
+    race("0 to 40 bytes of ASCII", lengths.iter().map(|&n| random.text(n, &[1])).collect(), 50);
+    race("24 bytes of 1 to 4 bytes each", (0..1000).map(|_| random.text(24, &[1, 2, 3, 4])).collect(), 50);
+}

@@ -1,17 +1,16 @@
--- The automaton decides RFC 3629's grammar: `utf8` is true exactly on `Utf8`. And a walk may be made in parts.
+-- The automaton decides RFC 3629's grammar, and a walk may be made in parts.
 use Prim.Native.Nat.{ℕ, suc, _≤_, _<_}
 use native.Mathlib.Omega.{arith}
 use mathlib.Core.Bool.{Bool, true, false, _&&_, and-eq-true-iff, and-false, false≢true}
 use mathlib.Core.List.{List, [], _∷_, _++_, foldl-append}
 use mathlib.Core.Path.{_≡_, refl, ap, _∙_, subst}
-use mathlib.Core.Logic.{_↔_}
 use lib.Dec.{leb}
 use borrow.Author.Tests.{le-leb, lt-leb, leb-true}
 use Rattle.text.specs.Rfc3629.{Range, _to_, tail, In, Bytes, done, byte, Char, utf8-1, utf8-2, utf8-3-E0, utf8-3-E1, utf8-3-ED, utf8-3-EE, utf8-4-F0, utf8-4-F1, utf8-4-F4, Utf8, none, more}
-use Rattle.text.specs.Walk.{State, start, one, two, three, after-E0, after-ED, after-F0, after-F4, wrong, Transition, _⇒_, transitions, within, pick, follow, step, run, accepting, utf8}
+use Rattle.text.specs.Walk.{State, start, one, two, three, after-E0, after-ED, after-F0, after-F4, wrong, Transition, _⇒_, transitions, within, pick, follow, step, run, accepting}
+use Rattle.text.specs.Theorems.{Utf8-exact, Run-append}
 
--- A walk over two parts is a walk over the first, and from there over the second
-pub run-append : (q : State) (l m : List ℕ) → run q (l ++ m) ≡ run (run q l) m
+pub run-append : Run-append
 run-append q l m = foldl-append step q l m
 
 -- A range's test and its meaning
@@ -209,6 +208,5 @@ wanted : (l : List ℕ) (q : State) → accepting (run q l) ≡ true → Wants q
 wanted [] q e = ends q e
 wanted (b ∷ l) q e = back q b l (wanted l (step q b) e)
 
--- `utf8` is true exactly on RFC 3629's `Utf8`
-pub utf8-exact : (l : List ℕ) → (utf8 l ≡ true) ↔ Utf8 l
+pub utf8-exact : Utf8-exact
 utf8-exact l = (λ e. rest-utf8 (wanted l start e), λ u. ap accepting (chars-run u))

@@ -1,4 +1,5 @@
 pub mod Rfc3629
 pub mod Walk
+pub mod Theorems
 pub mod States
 pub mod Private

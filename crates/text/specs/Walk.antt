@@ -1,5 +1,5 @@
--- The same syntax as an automaton that takes the bytes from left to right, and the test `utf8` that it decides.
--- That `utf8` is true exactly on RFC 3629's `Utf8` is the theorem `utf8-exact` of proofs/Exact.antt.
+-- The same syntax as an automaton that takes the bytes from left to right, and the test `utf8` by it.
+-- Theorems.antt says how the test and RFC 3629's grammar agree.
 use mathlib.Core.Bool.{Bool, true, false, _&&_}
 use mathlib.Core.List.{List, [], _∷_, foldl}
 use Prim.Native.Nat.{ℕ}
@@ -7,8 +7,8 @@ use lib.Dec.{leb}
 use Rattle.text.specs.Rfc3629.{Range, _to_, only, tail}
 
 infix 70 _⇒_
--- What the bytes so far leave wanted: nothing, so many bytes of UTF8-tail, or what RFC 3629 wants after one of four
--- first bytes. After a wrong byte nothing that follows helps.
+-- What the bytes so far leave wanted: nothing, at the start of a character; so many bytes of UTF8-tail; what may follow
+-- one of the four first bytes that narrow the second; or, past a wrong byte, nothing that could come
 pub data State : Type 0 where
   start : State
   one : State

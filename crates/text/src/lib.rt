@@ -12,8 +12,8 @@ mod tables;
 use tables::CLASS;
 use tables::NEXT;
 
-// What the bytes walked so far leave wanted: nothing, so many continuation bytes, what may follow one of four first
-// bytes, or nothing that could still come.
+// Where a walk stands: at the start of a character, so many continuation bytes before its end, behind one of the four
+// lead bytes that narrow the second byte, or past a wrong byte.
 pub enum State {
     Start,
     One,
@@ -26,7 +26,7 @@ pub enum State {
     Wrong,
 }
 
-// How a walk holds the state Start, in which nothing is wanted.
+// How a walk holds the state Start.
 const START: u64 = 0;
 
 // How many bytes are looked at for ASCII at a time.
@@ -43,8 +43,8 @@ pub fn is_utf8(s: &[u8]) -> bool
     walk_from(s, i, START) == START
 }
 
-// What is wanted after the bytes of s, where q was wanted before them: s may be a part of a text, and the next part is
-// walked from the answer.
+// Where a walk that stood at q stands after the bytes of s. A text may be walked in parts, each from the answer for the
+// one before; it is UTF-8 where the last answer is Start.
 pub fn walk(q: State, s: &[u8]) -> State
     ensures { λ r. ⌜ stateOf r ≡ run (stateOf q) (now (s .entry)) ⌝ }
 {
@@ -59,7 +59,7 @@ fn walk_from(s: &[u8], a: usize, q: u64) -> u64
     walk_blocks(&CLASS, &NEXT, s, a, q)
 }
 
-// The same, with the tables. A block of ASCII is passed over where nothing is wanted before it.
+// The same, with the tables. A block of ASCII at the start of a character is passed over.
 fn walk_blocks(class: &[u8; 256], next: &[u64; 12], s: &[u8], a: usize, q: u64) -> u64
     requires { ⌜ Encodes (now class) (now next) ⌝ }
     requires { ⌜ a ≤ length (now s) ⌝ }

@@ -70,33 +70,33 @@ pub ascii-step : (b : ℕ) → b < 128 → step start b ≡ start
 ascii-step b h = stepped start b here (omega arith)
 
 -- Transitions over the ranges, one after the other, from a state to start
-data Path : State → List Range → Type 0 where
-  end : Path start []
-  by : {q : State} (p : State) {r : Range} {rs : List Range} → Among (r ⇒ p) (transitions q) → Path p rs → Path q (r ∷ rs)
+data Route : State → List Range → Type 0 where
+  end : Route start []
+  by : {q : State} (p : State) {r : Range} {rs : List Range} → Among (r ⇒ p) (transitions q) → Route p rs → Route q (r ∷ rs)
 
-path-runs : {q : State} {rs : List Range} {c : List ℕ} → Path q rs → Bytes rs c → run q c ≡ start
-path-runs end done = refl
-path-runs (by {q = q} p m w) (byte {b = b} {c = c} i bs) = ap (λ (p : State). run p c) (stepped q b m i) ∙ path-runs w bs
+route-runs : {q : State} {rs : List Range} {c : List ℕ} → Route q rs → Bytes rs c → run q c ≡ start
+route-runs end done = refl
+route-runs (by {q = q} p m w) (byte {b = b} {c = c} i bs) = ap (λ (p : State). run p c) (stepped q b m i) ∙ route-runs w bs
 
-path-1 : Path one (tail ∷ [])
-path-1 = by start here end
+route-1 : Route one (tail ∷ [])
+route-1 = by start here end
 
-path-2 : Path two (tail ∷ tail ∷ [])
-path-2 = by one here path-1
+route-2 : Route two (tail ∷ tail ∷ [])
+route-2 = by one here route-1
 
-path-3 : Path three (tail ∷ tail ∷ tail ∷ [])
-path-3 = by two here path-2
+route-3 : Route three (tail ∷ tail ∷ tail ∷ [])
+route-3 = by two here route-2
 
 char-runs : {c : List ℕ} → Char c → run start c ≡ start
-char-runs (utf8-1 bs) = path-runs (by start here end) bs
-char-runs (utf8-2 bs) = path-runs (by one (search among) path-1) bs
-char-runs (utf8-3-E0 bs) = path-runs (by after-E0 (search among) (by one here path-1)) bs
-char-runs (utf8-3-E1 bs) = path-runs (by two (search among) path-2) bs
-char-runs (utf8-3-ED bs) = path-runs (by after-ED (search among) (by one here path-1)) bs
-char-runs (utf8-3-EE bs) = path-runs (by two (search among depth 9) path-2) bs
-char-runs (utf8-4-F0 bs) = path-runs (by after-F0 (search among depth 9) (by two here path-2)) bs
-char-runs (utf8-4-F1 bs) = path-runs (by three (search among depth 9) path-3) bs
-char-runs (utf8-4-F4 bs) = path-runs (by after-F4 (search among depth 9) (by two here path-2)) bs
+char-runs (utf8-1 bs) = route-runs (by start here end) bs
+char-runs (utf8-2 bs) = route-runs (by one (search among) route-1) bs
+char-runs (utf8-3-E0 bs) = route-runs (by after-E0 (search among) (by one here route-1)) bs
+char-runs (utf8-3-E1 bs) = route-runs (by two (search among) route-2) bs
+char-runs (utf8-3-ED bs) = route-runs (by after-ED (search among) (by one here route-1)) bs
+char-runs (utf8-3-EE bs) = route-runs (by two (search among depth 9) route-2) bs
+char-runs (utf8-4-F0 bs) = route-runs (by after-F0 (search among depth 9) (by two here route-2)) bs
+char-runs (utf8-4-F1 bs) = route-runs (by three (search among depth 9) route-3) bs
+char-runs (utf8-4-F4 bs) = route-runs (by after-F4 (search among depth 9) (by two here route-2)) bs
 
 chars-run : {l : List ℕ} → Utf8 l → run start l ≡ start
 chars-run none = refl

@@ -133,7 +133,7 @@ fn main() {
     race("1 MiB of 2 bytes each", vec![random.text(mib, &[2])], 2);
     race("1 MiB of 3 bytes each", vec![random.text(mib, &[3])], 2);
     race("1 MiB of 4 bytes each", vec![random.text(mib, &[4])], 2);
-    for n in [5, 10, 24, 40, 64, 100, 200] {
+    for n in [0, 5, 10, 24, 40, 64, 100, 200] {
         race(&format!("{n} bytes of ASCII"), (0..1000).map(|_| random.text(n, &[1])).collect(), 50);
     }
     let lengths: Vec<_> = (0..1000).map(|_| random.below(41)).collect();

@@ -2,7 +2,6 @@
 use Prim.Native.Nat.{ℕ, zero, suc, _+_, _-_, _≤_, _<_, zero-le}
 use native.Mathlib.Omega.{arith}
 use native.Mathlib.Nat.{add-zero}
-use native.Mathlib.Numerals.{add-one}
 use mathlib.Core.Bool.{Bool, true, false}
 use mathlib.Core.Path.{_≡_, refl, sym, ap, _∙_}
 use mathlib.Core.List.{List}
@@ -10,7 +9,7 @@ use lib.Dec.{ltb, eqb}
 use lib.ListN.{length, getD, take}
 use lib.Seq.{take-length}
 use borrow.Author.Tests.{ltb-true, ltb-false}
-use Rattle.text.specs.Walk.{State, start, step, run, accepting, utf8}
+use Rattle.text.specs.Walk.{State, start, run, accepting, utf8}
 use Rattle.text.specs.Private.{code, Walks, Ascii}
 use Rattle.text.proofs.Codes.{run-snoc, code-injective, code-accepting}
 use Rattle.text.proofs.Exact.{ascii-step}

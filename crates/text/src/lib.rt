@@ -119,7 +119,7 @@ fn ascii_prefix(s: &[u8]) -> usize
     i
 }
 
-// Whether s, which is shorter than a block, is ASCII.
+// Whether s, which is no longer than a block, is ASCII.
 fn is_ascii_short(s: &[u8]) -> bool
     requires { ⌜ length (now s) ≤ 64 ⌝ }
     ensures { λ r. ⌜ (r ≡ true → Ascii (now (s .entry)) 0 (length (now (s .entry)))) ⌝ }

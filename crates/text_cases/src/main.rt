@@ -48,8 +48,10 @@ fn answer_line(line: &[u8]) {
         return;
     }
     if line[0] == b'-' {
-        answer(&line[0..0]);
-        return;
+        if line.len() == 1 {
+            answer(&line[0..0]);
+            return;
+        }
     }
     let mut space = io::buffer();
     let n = parse(line, &mut space);
@@ -81,10 +83,21 @@ fn parse(line: &[u8], out: &mut [u8]) -> usize
         if 16 <= low {
             return 0;
         }
+        if !ends_or_blank(line, k * 3 + 2) {
+            return 0;
+        }
         out[k] = high * 16 + low;
         k += 1;
     }
     n
+}
+
+// Whether the line ends at the place at or has a blank there.
+fn ends_or_blank(line: &[u8], at: usize) -> bool {
+    if at < line.len() {
+        return line[at] == b' ';
+    }
+    true
 }
 
 // What a hexadecimal digit stands for, 16 where it is none.

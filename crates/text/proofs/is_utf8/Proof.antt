@@ -1,7 +1,4 @@
 -- Either all of the text is ASCII, or the walk goes on where ASCII ends.
-use native.Mathlib.Omega.{arith}
-use mathlib.Core.Path.{_≡_}
-use lib.ListN.{length}
 use borrow.Author.Needs.{needs}
 use Rattle.text.proofs.Blocks.{ascii-utf8, answered}
 use Rattle.text.proofs.is_utf8.Statement.{statement}

@@ -1,5 +1,5 @@
 -- The end stays within the input.
-use Prim.Native.Nat.{_≤_, _+_, _-_}
+use Prim.Native.Nat.{_≤_, _-_}
 use lib.ListN.{length}
 use borrow.Author.Needs.{needs}
 use Rattle.text_cases.proofs.line_end.Statement.{statement}

@@ -1,5 +1,5 @@
 -- Each byte of a case takes three places of the line, the last one two.
-use Prim.Native.Nat.{_≤_, _+_, _-_}
+use Prim.Native.Nat.{_≤_, _-_}
 use mathlib.Core.Path.{_≡_}
 use lib.ListN.{length}
 use borrow.Author.Needs.{needs}
@@ -63,6 +63,21 @@ same-length-2 c = search needs
 returns-4 : tie.Need-returns-4 Inv-loop μ-loop
 returns-4 c = search needs
 
+mul-ends-or-blank : tie.Need-mul-ends-or-blank Inv-loop μ-loop
+mul-ends-or-blank c = search needs
+
+add-ends-or-blank : tie.Need-add-ends-or-blank Inv-loop μ-loop
+add-ends-or-blank c = search needs
+
+ends-or-blank-requires : tie.Need-ends-or-blank-requires Inv-loop μ-loop
+ends-or-blank-requires c κs = search needs
+
+same-length-3 : tie.Need-same-length-3 Inv-loop μ-loop
+same-length-3 c = search needs
+
+returns-5 : tie.Need-returns-5 Inv-loop μ-loop
+returns-5 c = search needs
+
 mul-out : tie.Need-mul-out Inv-loop μ-loop
 mul-out c = search needs
 
@@ -81,11 +96,11 @@ loop-less c = search needs
 loop-again : tie.Need-loop-again Inv-loop μ-loop
 loop-again c = search needs
 
-same-length-3 : tie.Need-same-length-3 Inv-loop μ-loop
-same-length-3 c = search needs
+same-length-4 : tie.Need-same-length-4 Inv-loop μ-loop
+same-length-4 c = search needs
 
-returns-5 : tie.Need-returns-5 Inv-loop μ-loop
-returns-5 c = search needs
+returns-6 : tie.Need-returns-6 Inv-loop μ-loop
+returns-6 c = search needs
 
 pub parse-spec : {M : Type 1} → statement M
 parse-spec =
@@ -110,11 +125,16 @@ parse-spec =
     returns-3
     same-length-2
     returns-4
+    mul-ends-or-blank
+    add-ends-or-blank
+    ends-or-blank-requires
+    same-length-3
+    returns-5
     mul-out
     add-out
     slice-write-out
     add-k
     loop-less
     loop-again
-    same-length-3
-    returns-5)
+    same-length-4
+    returns-6)

@@ -1,0 +1,34 @@
+-- Tables of tags: the verdict on a tag, and what follows it.
+use mathlib.Core.Bool.{Bool, true, false, cond}
+use mathlib.Core.List.{List, [], _∷_, _++_}
+use mathlib.Core.Logic.{_≢_}
+use mathlib.Core.Path.{_≡_, refl}
+use native.Mathlib.Omega.{arith}
+use Prim.Native.Nat.{ℕ, zero, suc, _+_, _≤_, _<_}
+use lib.Dec.{eqb}
+use borrow.Author.Tests.{ne-eqb, eqb-false}
+use Rattle.layout.specs.Layout.{Fault, Verdict, fine, wrong, Layout, nothing}
+use Rattle.layout.specs.Forms.{Tags, known, follows, bare}
+
+-- n is not in the table
+abbrev pub Outside : Tags → ℕ → Type 0
+Outside [] n = Unit {0}
+Outside (row ∷ rows) n = (n ≢ row .0) × Outside rows n
+
+pub known-outside : (f : Fault) (rows : Tags) (n : ℕ) → Outside rows n → known f rows n ≡ wrong f
+known-outside f [] n h = refl
+known-outside f (row ∷ rows) n h = rw (ne-eqb n (row .0) (h .0)) (known-outside f rows n (h .1))
+
+pub follows-outside : (rows : Tags) (n : ℕ) → Outside rows n → follows rows n ≡ nothing
+follows-outside [] n h = refl
+follows-outside (row ∷ rows) n h = rw (ne-eqb n (row .0) (h .0)) (follows-outside rows n (h .1))
+
+-- A bare tag
+pub bare-in : (f : Fault) (a k : ℕ) (rows : Tags) (n : ℕ) → a ≤ n → n < a + k → (known f (bare a k ++ rows) n ≡ fine) × (follows (bare a k ++ rows) n ≡ nothing)
+bare-in f a zero rows n h l = absurd (omega arith)
+bare-in f a (suc k) rows n h l = go (eqb n a) refl (λ e. bare-in f (suc a) k rows n (omega arith) (omega arith))
+  where
+    go : (x : Bool) → eqb n a ≡ x → ((n ≡ a → ⊥) → (known f (bare (suc a) k ++ rows) n ≡ fine) × (follows (bare (suc a) k ++ rows) n ≡ nothing))
+        → (cond x fine (known f (bare (suc a) k ++ rows) n) ≡ fine) × (cond x nothing (follows (bare (suc a) k ++ rows) n) ≡ nothing)
+    go true e i = (refl, refl)
+    go false e i = i (eqb-false n a e)

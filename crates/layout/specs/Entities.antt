@@ -1,0 +1,403 @@
+-- The layouts of the nine entities and of their parts, in the order of `decode_entity` and of the `read_` functions of
+-- src/section.rs, by whose names they go. Beside a part stands the name of its field, beside a tag that of its constant.
+use mathlib.Core.Bool.{cond, _||_}
+use mathlib.Core.List.{List, [], _∷_, _++_, map}
+use Prim.Native.Nat.{ℕ}
+use lib.Dec.{eqb}
+use lib.ListN.{getD}
+use Rattle.layout.specs.Layout.{Leaf, Verdict, fine, wrong, other-mapping, error-result, Layout, nothing, text, _then_, check}
+use Rattle.layout.specs.Written.{leafValue}
+use Rattle.layout.specs.Forms.{number, flag, list, may, Tags, _⇒_, kinds, tags, tagsAfter, bare}
+
+-- O: a text that may be missing
+unfoldable pub OptionStr : Layout
+OptionStr = may text
+
+unfoldable pub OptionU32 : Layout
+OptionU32 = may number
+
+unfoldable pub StrList : Layout
+StrList = list text
+
+-- Each number is there also where its flag is 0
+unfoldable pub Numeric : Layout
+Numeric =
+    flag  -- has_precision
+    then number  -- precision
+    then flag  -- has_scale
+    then number  -- scale
+
+abbrev pub sqlArrayMappings : Tags
+sqlArrayMappings =
+    1 ⇒ text  -- As
+    ∷ 3 ⇒ Numeric  -- Numeric
+    ∷ 4 ⇒ nothing  -- Composite
+    ∷ []
+
+unfoldable pub SqlArrayMapping : Layout
+SqlArrayMapping = tags sqlArrayMappings
+
+abbrev pub sqlMappings : Tags
+sqlMappings =
+    1 ⇒ text  -- As
+    ∷ 2 ⇒ SqlArrayMapping  -- Array
+    ∷ 3 ⇒ Numeric  -- Numeric
+    ∷ 4 ⇒ nothing  -- Composite
+    ∷ 5 ⇒ nothing  -- Skip
+    ∷ []
+
+unfoldable pub SqlMapping : Layout
+SqlMapping = tags sqlMappings
+
+unfoldable pub SqlMappingList : Layout
+SqlMappingList = list SqlMapping
+
+abbrev pub returnsTags : Tags
+returnsTags =
+    1 ⇒ SqlMapping  -- One
+    ∷ 2 ⇒ SqlMapping  -- SetOf
+    ∷ 3 ⇒ SqlMappingList  -- Table
+    ∷ []
+
+unfoldable pub Returns : Layout
+Returns = tags returnsTags
+
+-- 1 SetOf, 2 Table, 3 NestedArray, 4 BareU8, 5 SkipInArray, 6 Datum
+abbrev pub argumentErrors : Tags
+argumentErrors =
+    bare 1 6
+    ++ (7 ⇒ text ∷ [])  -- NotValidAsArgument
+
+unfoldable pub ArgumentError : Layout
+ArgumentError = tags argumentErrors
+
+abbrev pub argumentResults : Tags
+argumentResults =
+    1 ⇒ SqlMapping  -- Ok
+    ∷ 2 ⇒ ArgumentError  -- Err
+    ∷ []
+
+-- The argument-side result
+unfoldable pub ArgumentSql : Layout
+ArgumentSql = tags argumentResults
+
+-- 1 NestedSetOf, 2 NestedTable, 3 NestedArray, 4 SetOfContainingTable, 5 TableContainingSetOf, 6 SetOfInArray,
+-- 7 TableInArray, 8 BareU8, 9 SkipInArray, 10 Datum
+unfoldable pub ReturnsError : Layout
+ReturnsError = tags (bare 1 10)
+
+abbrev pub returnResults : Tags
+returnResults =
+    1 ⇒ Returns  -- Ok
+    ∷ 2 ⇒ ReturnsError  -- Err
+    ∷ []
+
+-- The return-side result
+unfoldable pub ReturnSql : Layout
+ReturnSql = tags returnResults
+
+abbrev pub positioningRefs : Tags
+positioningRefs =
+    1 ⇒ text  -- FullPath
+    ∷ 2 ⇒ text  -- Name
+    ∷ []
+
+unfoldable pub PositioningRef : Layout
+PositioningRef = tags positioningRefs
+
+unfoldable pub PositioningRefList : Layout
+PositioningRefList = list PositioningRef
+
+-- To-SQL
+unfoldable pub ToSqlConfig : Layout
+ToSqlConfig =
+    flag  -- enabled
+    then OptionStr  -- content
+
+-- 1 ThisExtension, 2 External
+unfoldable pub TypeOrigin : Layout
+TypeOrigin = tags (bare 1 2)
+
+unfoldable pub Resolution : Layout
+Resolution =
+    text  -- type_ident
+    then TypeOrigin  -- type_origin
+
+unfoldable pub OptionResolution : Layout
+OptionResolution = may Resolution
+
+-- The metadata record
+unfoldable pub FunctionMetadataType : Layout
+FunctionMetadataType =
+    OptionResolution  -- resolution
+    then ArgumentSql  -- argument_sql
+    then ReturnSql  -- return_sql
+
+unfoldable pub UsedType : Layout
+UsedType =
+    text  -- ty_source
+    then text  -- full_path
+    then OptionStr  -- composite_type
+    then flag  -- variadic
+    then OptionStr  -- default
+    then flag  -- optional
+    then FunctionMetadataType  -- metadata
+
+unfoldable pub OptionUsedType : Layout
+OptionUsedType = may UsedType
+
+unfoldable pub PgExternArgument : Layout
+PgExternArgument =
+    text  -- pattern
+    then UsedType  -- used_ty
+
+unfoldable pub PgExternArgumentList : Layout
+PgExternArgumentList = list PgExternArgument
+
+-- A type of an aggregate. An item of an iterated return, with its name and ty, is laid out alike
+unfoldable pub AggregateType : Layout
+AggregateType =
+    OptionStr  -- name
+    then UsedType  -- used_ty
+
+unfoldable pub AggregateTypeList : Layout
+AggregateTypeList = list AggregateType
+
+unfoldable pub OptionAggregateTypeList : Layout
+OptionAggregateTypeList = may AggregateTypeList
+
+abbrev pub pgExternReturns : Tags
+pgExternReturns =
+    1 ⇒ nothing  -- None
+    ∷ 2 ⇒ UsedType  -- Type
+    ∷ 3 ⇒ UsedType  -- SetOf
+    ∷ 4 ⇒ AggregateTypeList  -- Iterated
+    ∷ 5 ⇒ nothing  -- Trigger
+    ∷ []
+
+-- A function's return
+unfoldable pub PgExternReturn : Layout
+PgExternReturn = tags pgExternReturns
+
+-- 1 CreateOrReplace, 2 Immutable, 3 Strict, 4 Stable, 5 Volatile, 6 Raw, 7 NoGuard, 8 SecurityDefiner, 9 SecurityInvoker,
+-- 10 ParallelSafe, 11 ParallelUnsafe, 12 ParallelRestricted
+abbrev pub bareExternArgs : Tags
+bareExternArgs = bare 1 12
+
+abbrev pub otherExternArgs : Tags
+otherExternArgs =
+    13 ⇒ text  -- ShouldPanic
+    ∷ 14 ⇒ text  -- Schema
+    ∷ 15 ⇒ PositioningRef  -- Support
+    ∷ 16 ⇒ text  -- Name
+    ∷ 17 ⇒ text  -- Cost
+    ∷ 18 ⇒ PositioningRefList  -- Requires
+    ∷ []
+
+-- A function's attribute
+unfoldable pub ExternArg : Layout
+ExternArg = tags (bareExternArgs ++ otherExternArgs)
+
+unfoldable pub ExternArgList : Layout
+ExternArgList = list ExternArg
+
+unfoldable pub SearchPath : Layout
+SearchPath = may StrList
+
+unfoldable pub Operator : Layout
+Operator =
+    OptionStr  -- opname
+    then OptionStr  -- commutator
+    then OptionStr  -- negator
+    then OptionStr  -- restrict
+    then OptionStr  -- join
+    then flag  -- hashes
+    then flag  -- merges
+
+unfoldable pub OptionOperator : Layout
+OptionOperator = may Operator
+
+-- 1 Default, 2 Assignment, 3 Implicit
+unfoldable pub Cast : Layout
+Cast = tags (bare 1 3)
+
+unfoldable pub OptionCast : Layout
+OptionCast = may Cast
+
+-- The value of the i-th of some leaves, from 0
+abbrev pub valueIn : List Leaf → ℕ → ℕ
+valueIn ls i = getD (map leafValue ls) i 0
+
+-- The verdict on an argument-side result by its first two tags: the first is the result's; where that is Ok, the second is
+-- the mapping's, which must be As or Numeric
+abbrev pub asOrNumeric : ℕ → ℕ → Verdict
+asOrNumeric result mapping =
+    cond (eqb result 1) (cond (eqb mapping 1 || eqb mapping 3) fine (wrong other-mapping)) (wrong error-result)
+
+abbrev pub resultVerdict : List Leaf → Verdict
+resultVerdict ls = asOrNumeric (valueIn ls 0) (valueIn ls 1)
+
+-- A declaration's result
+unfoldable pub DeclaredSql : Layout
+DeclaredSql = check ArgumentSql resultVerdict
+
+unfoldable pub DeclaredType : Layout
+DeclaredType =
+    text  -- type_ident
+    then DeclaredSql  -- sql
+
+abbrev pub sqlDeclareds : Tags
+sqlDeclareds =
+    1 ⇒ DeclaredType  -- Type
+    ∷ 2 ⇒ DeclaredType  -- Enum
+    ∷ 3 ⇒ nothing  -- Function
+    ∷ []
+
+-- A declaration: its kind, its name, and only then the kind is judged
+unfoldable pub SqlDeclared : Layout
+SqlDeclared = tagsAfter text sqlDeclareds
+
+unfoldable pub SqlDeclaredList : Layout
+SqlDeclaredList = list SqlDeclared
+
+-- 1 ReadOnly, 2 Shareable, 3 ReadWrite
+unfoldable pub FinalizeModify : Layout
+FinalizeModify = tags (bare 1 3)
+
+unfoldable pub OptionFinalizeModify : Layout
+OptionFinalizeModify = may FinalizeModify
+
+-- 1 Safe, 2 Restricted, 3 Unsafe
+unfoldable pub ParallelOption : Layout
+ParallelOption = tags (bare 1 3)
+
+unfoldable pub OptionParallelOption : Layout
+OptionParallelOption = may ParallelOption
+
+unfoldable pub Schema : Layout
+Schema =
+    text  -- module_path
+    then text  -- name
+    then text  -- file
+    then number  -- line
+
+unfoldable pub CustomSql : Layout
+CustomSql =
+    text  -- sql
+    then text  -- module_path
+    then text  -- full_path
+    then text  -- file
+    then number  -- line
+    then text  -- name
+    then flag  -- bootstrap
+    then flag  -- finalize
+    then PositioningRefList  -- requires
+    then SqlDeclaredList  -- creates
+
+unfoldable pub Function : Layout
+Function =
+    text  -- name
+    then text  -- unaliased_name
+    then text  -- module_path
+    then text  -- full_path
+    then PgExternArgumentList  -- fn_args
+    then PgExternReturn  -- fn_return
+    then OptionStr  -- schema
+    then text  -- file
+    then number  -- line
+    then ExternArgList  -- extern_attrs
+    then SearchPath  -- search_path
+    then OptionOperator  -- operator
+    then OptionCast  -- cast
+    then ToSqlConfig  -- to_sql_config
+
+unfoldable pub PostgresType : Layout
+PostgresType =
+    text  -- name
+    then text  -- file
+    then number  -- line
+    then text  -- module_path
+    then text  -- full_path
+    then text  -- type_ident
+    then text  -- in_fn_path
+    then text  -- out_fn_path
+    then OptionStr  -- receive_fn_path
+    then OptionStr  -- send_fn_path
+    then ToSqlConfig  -- to_sql_config
+    then OptionU32  -- alignment
+
+unfoldable pub PostgresEnum : Layout
+PostgresEnum =
+    text  -- name
+    then text  -- file
+    then number  -- line
+    then text  -- module_path
+    then text  -- full_path
+    then text  -- type_ident
+    then StrList  -- variants
+    then ToSqlConfig  -- to_sql_config
+
+unfoldable pub OrdOrHash : Layout
+OrdOrHash =
+    text  -- name
+    then text  -- file
+    then number  -- line
+    then text  -- full_path
+    then text  -- module_path
+    then text  -- type_ident
+    then ToSqlConfig  -- to_sql_config
+
+unfoldable pub Aggregate : Layout
+Aggregate =
+    text  -- full_path
+    then text  -- module_path
+    then text  -- file
+    then number  -- line
+    then text  -- name
+    then flag  -- ordered_set
+    then AggregateTypeList  -- args
+    then OptionAggregateTypeList  -- direct_args
+    then AggregateType  -- stype
+    then text  -- sfunc
+    then OptionStr  -- finalfunc
+    then OptionFinalizeModify  -- finalfunc_modify
+    then OptionStr  -- combinefunc
+    then OptionStr  -- serialfunc
+    then OptionStr  -- deserialfunc
+    then OptionStr  -- initcond
+    then OptionStr  -- msfunc
+    then OptionStr  -- minvfunc
+    then OptionUsedType  -- mstype
+    then OptionStr  -- mfinalfunc
+    then OptionFinalizeModify  -- mfinalfunc_modify
+    then OptionStr  -- minitcond
+    then OptionStr  -- sortop
+    then OptionParallelOption  -- parallel
+    then flag  -- hypothetical
+    then ToSqlConfig  -- to_sql_config
+
+unfoldable pub Trigger : Layout
+Trigger =
+    text  -- function_name
+    then text  -- file
+    then number  -- line
+    then text  -- module_path
+    then text  -- full_path
+    then ToSqlConfig  -- to_sql_config
+
+abbrev pub entities : Tags
+entities =
+    1 ⇒ Schema
+    ∷ 2 ⇒ CustomSql
+    ∷ 3 ⇒ Function
+    ∷ 4 ⇒ PostgresType
+    ∷ 5 ⇒ PostgresEnum
+    ∷ 6 ⇒ OrdOrHash  -- ord
+    ∷ 7 ⇒ OrdOrHash  -- hash
+    ∷ 8 ⇒ Aggregate
+    ∷ 9 ⇒ Trigger
+    ∷ []
+
+-- One entity: its kind, and a value for each part of that kind's layout
+unfoldable pub Entity : Layout
+Entity = kinds entities

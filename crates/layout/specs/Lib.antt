@@ -1,0 +1,9 @@
+pub mod Layout
+pub mod Written
+pub mod Forms
+pub mod Entities
+pub mod Reading
+pub mod Spelling
+pub mod Answers
+pub mod Alone
+pub mod Theorems

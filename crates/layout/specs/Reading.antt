@@ -1,0 +1,101 @@
+-- Reading a layout from bytes, by document 01's refusals 5 to 11: the first bad read is refused.
+use mathlib.Core.Bool.{Bool, true, false}
+use mathlib.Core.List.{List}
+use Prim.Native.Nat.{ℕ, _+_, _*_}
+use lib.Dec.{ltb, leb}
+use lib.ListN.{length, getD, take, drop}
+use Rattle.layout.specs.Layout.{Sort, Kind, Tag, Flag, Number, Count, Leaf, Verdict, fine, wrong, refusalOf, Layout, nothing, one, text, _then_, case, check, Value, leaves}
+use Rattle.text.specs.Walk as automaton
+
+-- What a read comes to: a value and the state after it, or a refusal's number and place
+pub data Outcome (S A : Type 0) : Type 0 where
+  ok : A → S → Outcome S A
+  refuse : (number place : ℕ) → Outcome S A
+
+module _ {S A : Type 0} where
+  infixl 20 _>>=_
+  -- What comes next, unless it is refused
+  abbrev pub _>>=_ : {B : Type 0} → Outcome S A → (A → S → Outcome S B) → Outcome S B
+  ok a st >>= next = next a st
+  refuse n p >>= next = refuse n p
+
+  -- The rest if the test passes, else a refusal
+  abbrev pub need : Bool → (number place : ℕ) → Outcome S A → Outcome S A
+  need true n p rest = rest
+  need false n p rest = refuse n p
+
+  -- The rest if the verdict is fine, else its refusal at a place
+  abbrev pub judged : Verdict → (place : ℕ) → Outcome S A → Outcome S A
+  judged fine p rest = rest
+  judged (wrong f) p rest = refuse (refusalOf f) p
+
+-- What leaves are read from: a read for each sort of leaf, and the place of a state
+pub record Source : Type 1 where
+  pub State : Type 0
+  pub takePlain : Sort → State → Outcome State ℕ
+  pub takeText : State → Outcome State (List ℕ)
+  pub place : State → ℕ
+
+-- The reading of a layout from any source
+unfoldable pub walk : (S : Source) (L : Layout) → S .State → Outcome (S .State) (Value L)
+walk S nothing st = ok tt st
+walk S (one srt) st = S .takePlain srt st
+walk S text st = S .takeText st
+walk S (A then B) st =
+    walk S A st >>= λ a st₁.
+    walk S B st₁ >>= λ b st₂. ok (a, b) st₂
+walk S (case srt A j B) st =
+    S .takePlain srt st >>= λ n st₁.
+    walk S A st₁ >>= λ a st₂.
+    judged (j n) (S .place st)
+    (walk S (B n) st₂ >>= λ b st₃. ok (n, a, b) st₃)
+walk S (check A j) st = walk S A st >>= λ a st₁. judged (j (leaves A a)) (S .place st) (ok a st₁)
+
+-- A text is valid by RFC 3629
+unfoldable pub utf8 : List ℕ → Bool
+utf8 t = automaton.utf8 t
+
+-- 5: n bytes are left at a place
+abbrev pub enough : List ℕ → (place n : ℕ) → Bool
+enough s at n = leb (at + n) (length s)
+
+-- The four bytes at a place as a number, little-endian
+abbrev pub numberAt : List ℕ → ℕ → ℕ
+numberAt s at = getD s at 0 + 256 * getD s (at + 1) 0 + 65536 * getD s (at + 2) 0 + 16777216 * getD s (at + 3) 0
+
+-- A byte
+abbrev pub byteAt : List ℕ → ℕ → Outcome ℕ ℕ
+byteAt s at = need (enough s at 1) 5 at (ok (getD s at 0) (at + 1))
+
+-- 6: a flag is 0 or 1
+abbrev pub flagAt : List ℕ → ℕ → Outcome ℕ ℕ
+flagAt s at = need (enough s at 1) 5 at (need (ltb (getD s at 0) 2) 6 at (ok (getD s at 0) (at + 1)))
+
+-- Four bytes
+abbrev pub fourAt : List ℕ → ℕ → Outcome ℕ ℕ
+fourAt s at = need (enough s at 4) 5 at (ok (numberAt s at) (at + 4))
+
+abbrev pub plainAt : List ℕ → Sort → ℕ → Outcome ℕ ℕ
+plainAt s Kind at = byteAt s at
+plainAt s Tag at = byteAt s at
+plainAt s Flag at = flagAt s at
+plainAt s Number at = fourAt s at
+plainAt s Count at = fourAt s at
+
+-- A text of n bytes, behind its length: 5 there if it is too long, then 7
+abbrev pub bodyAt : List ℕ → (n place : ℕ) → Outcome ℕ (List ℕ)
+bodyAt s n at = need (enough s at n) 5 at (need (utf8 (take n (drop at s))) 7 at (ok (take n (drop at s)) (at + n)))
+
+abbrev pub textAt : List ℕ → ℕ → Outcome ℕ (List ℕ)
+textAt s at = fourAt s at >>= λ n at₁. bodyAt s n at₁
+
+-- The bytes up to the payload's end, as a source: its states are places
+abbrev pub inBytes : List ℕ → Source
+inBytes s = record { State = ℕ; takePlain = plainAt s; takeText = textAt s; place = λ at. at }
+
+unfoldable pub readValue : (L : Layout) → List ℕ → ℕ → Outcome ℕ (Value L)
+readValue L s at = walk (inBytes s) L at
+
+-- The reading of a layout at a place of s, where s ends with the payload: its leaves and where they end, or a refusal
+unfoldable pub read : Layout → List ℕ → ℕ → Outcome ℕ (List Leaf)
+read L s at = readValue L s at >>= λ v end. ok (leaves L v) end

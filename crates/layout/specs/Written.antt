@@ -1,0 +1,57 @@
+-- What a value derives: the bytes of its leaves, and their rows. Nothing here is taken from the reader.
+use mathlib.Core.List.{List, [], _∷_, _++_}
+use Prim.Native.Nat.{ℕ, _+_, _/_, _%_}
+use lib.ListN.{length}
+use Rattle.layout.specs.Layout.{Sort, Kind, Tag, Flag, Number, Count, Leaf, plain, string, Layout, Value, leaves}
+
+-- Four bytes, little-endian
+abbrev pub four : ℕ → List ℕ
+four n = n % 256 ∷ n / 256 % 256 ∷ n / 65536 % 256 ∷ n / 16777216 % 256 ∷ []
+
+-- The bytes of a leaf that holds a number: 1 for a kind, tag or flag, 4 for a number or count
+abbrev pub plainBytes : Sort → ℕ → List ℕ
+plainBytes Kind n = n ∷ []
+plainBytes Tag n = n ∷ []
+plainBytes Flag n = n ∷ []
+plainBytes Number n = four n
+plainBytes Count n = four n
+
+-- The bytes of a leaf; a text has its length before it
+abbrev pub leafBytes : Leaf → List ℕ
+leafBytes (plain srt n) = plainBytes srt n
+leafBytes (string t) = four (length t) ++ t
+
+abbrev pub bytesOf : List Leaf → List ℕ
+bytesOf [] = []
+bytesOf (x ∷ ls) = leafBytes x ++ bytesOf ls
+
+-- What a value of a layout derives
+abbrev pub bytes : (L : Layout) → Value L → List ℕ
+bytes L v = bytesOf (leaves L v)
+
+-- The numbers of a row
+abbrev pub rowWidth : ℕ
+rowWidth = 3
+
+-- The sort's number in a row
+abbrev pub sortNumber : Sort → ℕ
+sortNumber Kind = 1
+sortNumber Tag = 2
+sortNumber Flag = 3
+sortNumber Number = 4
+sortNumber Count = 5
+
+-- The value in a row: of a text its byte length
+abbrev pub leafValue : Leaf → ℕ
+leafValue (plain srt n) = n
+leafValue (string t) = length t
+
+-- The row of a leaf that begins at a place: sort, offset, value. A text's offset is its first byte after its 4-byte length
+abbrev pub rowAt : ℕ → Leaf → List ℕ
+rowAt at (plain srt n) = sortNumber srt ∷ at ∷ n ∷ []
+rowAt at (string t) = 6 ∷ (at + 4) ∷ length t ∷ []
+
+-- The rows of leaves of which the first begins at a place
+abbrev pub rowsFrom : ℕ → List Leaf → List ℕ
+rowsFrom at [] = []
+rowsFrom at (x ∷ ls) = rowAt at x ++ rowsFrom (at + length (leafBytes x)) ls

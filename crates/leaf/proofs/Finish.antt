@@ -1,0 +1,130 @@
+-- A reading from the start, finished, is the reading of one value alone.
+use mathlib.Core.Bool.{Bool, true, false, cond}
+use mathlib.Core.List.{List, []}
+use mathlib.Core.Path.{_≡_, refl, sym, ap, subst, _∙_}
+use native.Mathlib.Omega.{arith}
+use Prim.Native.Nat.{ℕ, _+_, _*_, _/_, _≤_, _<_}
+use lib.Dec.{leb, eqb}
+use lib.ListN.{length, take, replicate}
+use borrow.Author.Tests.{eq-eqb, ne-eqb, le-leb, lt-leb, le-ltb, leb-true, leb-false}
+use Rattle.layout.specs.Layout.{Sort, Leaf, plain, string, Verdict, fine, wrong, Layout, nothing, one, text, _then_, case, check}
+use Rattle.layout.specs.Written.{rowWidth}
+use Rattle.layout.specs.Reading.{Outcome, ok, refuse, _>>=_, need, plainAt, textAt, read}
+use Rattle.layout.specs.Answers.{Result, Given, wholeRows, acceptance, refusal, tell}
+use Rattle.layout.specs.Alone.{limit, given, readAlone, readingAlone}
+use Rattle.leaf.specs.State.{State, state, start, stop, arrive, guarded, plainStep, textStep}
+use Rattle.leaf.specs.Run.{run, pass, verdictOn}
+use Rattle.leaf.specs.Finish.{finished}
+use Rattle.leaf.specs.Theorems.{arriveAll, Follows, Run-alone}
+use Rattle.leaf.proofs.Forms.{Refused}
+use Rattle.leaf.proofs.Table.{arrive-length, arriveAll-length, fills, shorts}
+use Rattle.leaf.proofs.Reading.{arriveAll-refusal, moved-of, stops-of, run-read}
+
+-- No reading changes the table's length
+guarded-length : (s : List ℕ) (o : Outcome ℕ Leaf) (st : State) → length (guarded s (arrive o st) st .table) ≡ length (st .table)
+unfolding guarded
+guarded-length s o st = go (eqb (st .cursor .refusal) 0) (leb (length s) limit)
+  where
+    go : (a b : Bool) → length (cond a (cond b (arrive o st) (stop 1 0 st)) st .table) ≡ length (st .table)
+    go true true = arrive-length o st
+    go true false = refl
+    go false b = refl
+
+plain-length : (srt : Sort) (s : List ℕ) (st : State) → length (plainStep srt s st .table) ≡ length (st .table)
+unfolding plainStep
+plain-length srt s st = guarded-length s (plainAt s srt (st .cursor .at) >>= λ n next. ok (plain srt n) next) st
+
+text-length : (s : List ℕ) (st : State) → length (textStep s st .table) ≡ length (st .table)
+unfolding textStep
+text-length s st = guarded-length s (textAt s (st .cursor .at) >>= λ t next. ok (string t) next) st
+
+pass-length : (v : Verdict) (p : ℕ) (st : State) → length (pass v p st .table) ≡ length (st .table)
+pass-length fine p st = refl
+pass-length (wrong f) p st = refl
+
+pub run-length : (L : Layout) (s : List ℕ) (st : State) → length (run L s st .table) ≡ length (st .table)
+unfolding run
+run-length nothing s st = refl
+run-length (one srt) s st = plain-length srt s st
+run-length text s st = text-length s st
+run-length (A then B) s st = run-length B s (run A s st) ∙ run-length A s st
+run-length (case srt A j B) s st =
+    let st₁ = plainStep srt s st in
+    let n = st₁ .cursor .value in
+    run-length (B n) s (pass (j n) (st .cursor .at) (run A s st₁)) ∙ pass-length (j n) (st .cursor .at) (run A s st₁) ∙ run-length A s st₁ ∙ plain-length srt s st
+run-length (check A j) s st = pass-length (verdictOn j (read A s (st .cursor .at))) (st .cursor .at) (run A s st) ∙ run-length A s st
+
+-- Refusals of tables of one length are the same
+refusal-same : (n p : ℕ) (t u : List ℕ) → length t ≡ length u → refusal n p t ≡ refusal n p u
+refusal-same n p t u e = rw e
+
+module _ (entities : ℕ) (s : List ℕ) (st : State) where
+  finished-long : limit < length s → finished entities s st ≡ refusal 1 0 (st .table)
+  unfolding finished
+  finished-long h = rw (lt-leb (length s) limit h)
+
+  module _ (small : length s ≤ limit) where
+    finished-refused : Refused st → finished entities s st ≡ refusal (st .cursor .refusal) (st .cursor .place) (st .table)
+    unfolding finished
+    finished-refused h = rw (le-leb (length s) limit small, ne-eqb _ _ h)
+
+    module _ (z : st .cursor .refusal ≡ 0) where
+      finished-trailing : st .cursor .at < length s → finished entities s st ≡ refusal 12 (st .cursor .at) (st .table)
+      unfolding finished
+      finished-trailing h = rw (le-leb (length s) limit small, eq-eqb _ _ z, lt-leb (length s) (st .cursor .at) h)
+
+      module _ (h : length s ≤ st .cursor .at) where
+        finished-short : st .cursor .short ≡ true → finished entities s st ≡ refusal 13 0 (st .table)
+        unfolding finished
+        finished-short e = rw (le-leb (length s) limit small, eq-eqb _ _ z, le-leb (length s) (st .cursor .at) h, e)
+
+        finished-whole : st .cursor .short ≡ false → st .cursor .rows ≤ wholeRows (st .table)
+            → finished entities s st ≡ acceptance (record { entities = entities; leaves = st .cursor .rows; rows = take (rowWidth * st .cursor .rows) (st .table) }) (st .table)
+        unfolding finished
+        finished-whole e k = rw (le-leb (length s) limit small, eq-eqb _ _ z, le-leb (length s) (st .cursor .at) h, e, le-ltb (wholeRows (st .table)) (st .cursor .rows) k)
+
+module _ (entities : ℕ) (s table : List ℕ) (small : length s ≤ limit) where
+  -- The rest of the reading alone, behind `read`
+  abbrev ended : Outcome ℕ (List Leaf) → Result
+  ended o = tell (o >>= λ ls end. need (leb (length s) end) 12 end (ok (given entities ls) end)) table
+
+  -- Everything was read
+  whole : (ls : List Leaf) (next : ℕ) (b : Bool) → leb (length ls) (wholeRows table) ≡ b → arriveAll ls (state start table) .cursor .at ≡ next → length s ≤ next
+      → finished entities s (arriveAll ls (state start table)) ≡ cond b (acceptance (given entities ls) table) (refusal 13 0 table)
+  whole ls next true e q h =
+      let st = state start table in
+      let k : length ls ≤ wholeRows table = leb-true (length ls) (wholeRows table) e in
+      let f = fills ls st (omega arith) in
+      let l : length (arriveAll ls st .table) ≡ length table = arriveAll-length ls st in
+      let r : arriveAll ls st .cursor .rows ≡ length ls = f .rows ∙ omega arith in
+      finished-whole entities s (arriveAll ls st) small (arriveAll-refusal ls st) (omega arith) (f .short) (omega (arith, ap (λ (n : ℕ). n / rowWidth) l))
+      ∙ rw (f .front, r, l)
+  whole ls next false e q h =
+      let st = state start table in
+      let k : wholeRows table < length ls = leb-false (length ls) (wholeRows table) e in
+      let g = shorts ls st (omega arith) (omega arith) in
+      finished-short entities s (arriveAll ls st) small (arriveAll-refusal ls st) (omega arith) g ∙ refusal-same 13 0 (arriveAll ls st .table) table (arriveAll-length ls st)
+
+  through : (ls : List Leaf) (next : ℕ) (b : Bool) → leb (length s) next ≡ b → arriveAll ls (state start table) .cursor .at ≡ next
+      → finished entities s (arriveAll ls (state start table)) ≡ tell (need b 12 next (ok (given entities ls) next)) table
+  through ls next true e q = whole ls next (leb (length ls) (wholeRows table)) refl q (leb-true _ _ e)
+  through ls next false e q =
+      let st = state start table in
+      let k : next < length s = leb-false (length s) next e in
+      finished-trailing entities s (arriveAll ls st) small (arriveAll-refusal ls st) (omega arith) ∙ rw (q, arriveAll-length ls st)
+
+  by-outcome : (o : Outcome ℕ (List Leaf)) (r : State) → Follows (state start table) r o → finished entities s r ≡ ended o
+  by-outcome (ok ls next) r h =
+      let (e, q) = moved-of h in
+      ap (finished entities s) e ∙ through ls next (leb (length s) next) refl (sym (ap (λ (x : State). x .cursor .at) e) ∙ q)
+  by-outcome (refuse n p) r h =
+      let (e, z, q, l) = stops-of h in
+      finished-refused entities s r small (λ w. z (sym e ∙ w)) ∙ rw (e, q, l)
+
+pub run-alone : Run-alone
+unfolding readingAlone readAlone
+run-alone L entities s table = go (leb (length s) limit) refl
+  where
+    go : (b : Bool) → leb (length s) limit ≡ b → finished entities s (run L s (state start table)) ≡ tell (need b 1 0 (read L s 0 >>= λ ls end. need (leb (length s) end) 12 end (ok (given entities ls) end))) table
+    go true e = by-outcome entities s table (leb-true _ _ e) (read L s 0) (run L s (state start table)) (run-read s (leb-true _ _ e) L (state start table) refl)
+    go false e = finished-long entities s (run L s (state start table)) (leb-false _ _ e) ∙ refusal-same 1 0 (run L s (state start table) .table) table (run-length L s (state start table))

@@ -1,0 +1,126 @@
+-- The table: what is stored in it, and what is cleared.
+use mathlib.Core.Bool.{Bool, true, false, cond}
+use mathlib.Core.List.{List, [], _∷_, _++_, append-assoc, append-nil}
+use mathlib.Core.Path.{_≡_, refl, sym, ap, _∙_}
+use native.Mathlib.Nat.{add-zero, sub-zero}
+use native.Mathlib.Omega.{arith}
+use Prim.Native.Nat.{ℕ, suc, _+_, _-_, _*_, _/_, _≤_, _<_}
+use lib.ListN.{length, take, set, length-set, replicate}
+use lib.Seq.{take-suc-set, take-all}
+use borrow.Author.Tests.{lt-ltb, le-ltb, ltb-true, ltb-false}
+use lib.Dec.{ltb}
+use Rattle.layout.specs.Layout.{Leaf, plain, string}
+use Rattle.layout.specs.Written.{leafBytes, bytesOf, leafValue, rowWidth, rowAt, rowsFrom}
+use Rattle.layout.specs.Reading.{Outcome, ok, refuse}
+use Rattle.layout.specs.Answers.{wholeRows}
+use Rattle.leaf.specs.State.{State, state, store, room, put, arrive}
+use Rattle.leaf.specs.Private.{cleared}
+use Rattle.leaf.specs.Theorems.{arriveAll}
+
+-- Clearing index after index
+pub cleared-step : (t : List ℕ) (i : ℕ) → i < length t → cleared (set t i 0) (i + 1) ≡ cleared t i
+unfolding cleared
+cleared-step t i h =
+    let a : i + 1 ≡ suc i = omega arith in
+    let b : length t - i ≡ suc (length t - (i + 1)) = omega arith in
+    rw (length-set t i 0, b, a, take-suc-set t i 0 h) (append-assoc (take i t) (0 ∷ []) _)
+
+pub cleared-end : (t : List ℕ) (i : ℕ) → length t ≤ i → cleared t i ≡ t
+unfolding cleared
+cleared-end t i h =
+    let a : length t - i ≡ 0 = omega arith in
+    rw (a, take-all i t h) (append-nil t)
+
+pub cleared-all : (t : List ℕ) → cleared t 0 ≡ replicate (length t) 0
+unfolding cleared
+cleared-all t = rw sub-zero
+
+-- Storing
+store-length : (xs t : List ℕ) (i : ℕ) → length (store t i xs) ≡ length t
+store-length [] t i = refl
+store-length (x ∷ xs) t i = store-length xs (set t i x) (i + 1) ∙ length-set t i x
+
+store-take : (xs t : List ℕ) (i : ℕ) → i + length xs ≤ length t → take (i + length xs) (store t i xs) ≡ take i t ++ xs
+store-take [] t i h = rw (add-zero, append-nil)
+store-take (x ∷ xs) t i h =
+    let a : i + length (x ∷ xs) ≡ i + 1 + length xs = omega arith in
+    let b : i + 1 ≡ suc i = omega arith in
+    let e : take (i + 1 + length xs) (store (set t i x) (i + 1) xs) ≡ take (i + 1) (set t i x) ++ xs = store-take xs (set t i x) (i + 1) (omega (arith, length-set t i x)) in
+    let f : take (i + 1) (set t i x) ≡ take i t ++ (x ∷ []) = rw b (take-suc-set t i x (omega arith)) in
+    ap (λ (n : ℕ). take n (store (set t i x) (i + 1) xs)) a ∙ e ∙ ap (λ (l : List ℕ). l ++ xs) f ∙ append-assoc (take i t) (x ∷ []) xs
+
+-- A leaf behind where a state stands
+abbrev pub push : Leaf → State → State
+push x st = arrive (ok x (st .cursor .at + length (leafBytes x))) st
+
+row-length : (at : ℕ) (x : Leaf) → length (rowAt at x) ≡ rowWidth
+row-length at (plain srt n) = refl
+row-length at (string t) = refl
+
+pub arrive-length : (o : Outcome ℕ Leaf) (st : State) → length (arrive o st .table) ≡ length (st .table)
+arrive-length (ok x next) st = go (room st)
+  where
+    go : (b : Bool) → length (cond b (store (st .table) (rowWidth * st .cursor .rows) (rowAt (st .cursor .at) x)) (st .table)) ≡ length (st .table)
+    go true = store-length (rowAt (st .cursor .at) x) (st .table) (rowWidth * st .cursor .rows)
+    go false = refl
+arrive-length (refuse n p) st = refl
+
+push-length : (x : Leaf) (st : State) → length (push x st .table) ≡ length (st .table)
+push-length x st = arrive-length (ok x (st .cursor .at + length (leafBytes x))) st
+
+pub arriveAll-length : (ls : List Leaf) (st : State) → length (arriveAll ls st .table) ≡ length (st .table)
+arriveAll-length [] st = refl
+arriveAll-length (x ∷ ls) st = arriveAll-length ls (push x st) ∙ push-length x st
+
+-- The rows of ls are stored behind those of st
+pub record Filled (at : ℕ) (ls : List Leaf) (st r : State) : Type 0 where
+  pub rows : r .cursor .rows ≡ st .cursor .rows + length ls
+  pub short : r .cursor .short ≡ st .cursor .short
+  pub front : take (rowWidth * r .cursor .rows) (r .table) ≡ take (rowWidth * st .cursor .rows) (st .table) ++ rowsFrom at ls
+
+push-fills : (x : Leaf) (st : State) → st .cursor .rows < wholeRows (st .table)
+    → (push x st .cursor .rows ≡ st .cursor .rows + 1) × (push x st .cursor .short ≡ st .cursor .short)
+    × (take (rowWidth * push x st .cursor .rows) (push x st .table) ≡ take (rowWidth * st .cursor .rows) (st .table) ++ rowAt (st .cursor .at) x)
+push-fills x st h =
+    let row = rowAt (st .cursor .at) x in
+    let e = lt-ltb (st .cursor .rows) (wholeRows (st .table)) h in
+    let l : length row ≡ rowWidth = row-length (st .cursor .at) x in
+    let q : rowWidth * (st .cursor .rows + 1) ≡ rowWidth * st .cursor .rows + length row = omega arith in
+    (rw e, rw e, rw (e, q) (store-take row (st .table) (rowWidth * st .cursor .rows) (omega arith)))
+
+pub fills : (ls : List Leaf) (st : State) → st .cursor .rows + length ls ≤ wholeRows (st .table) → Filled (st .cursor .at) ls st (arriveAll ls st)
+fills [] st h = record { rows = omega arith; short = refl; front = rw append-nil }
+fills (x ∷ ls) st h =
+    let (a, b, c) = push-fills x st (omega arith) in
+    let i = fills ls (push x st) (omega (arith, a, ap (λ (n : ℕ). n / rowWidth) (push-length x st))) in
+    record {
+      rows = omega (arith, i .rows, a);
+      short = i .short ∙ b;
+      front = i .front ∙ rw (c, append-assoc);
+    }
+
+-- If they do not fit, the cursor is short
+push-short : (x : Leaf) (st : State) → st .cursor .short ≡ true → push x st .cursor .short ≡ true
+push-short x st h = go (room st)
+  where
+    go : (b : Bool) → cond b (st .cursor .short) true ≡ true
+    go true = h
+    go false = refl
+
+stays-short : (ls : List Leaf) (st : State) → st .cursor .short ≡ true → arriveAll ls st .cursor .short ≡ true
+stays-short [] st h = h
+stays-short (x ∷ ls) st h = stays-short ls (push x st) (push-short x st h)
+
+pub shorts : (ls : List Leaf) (st : State) → wholeRows (st .table) < st .cursor .rows + length ls → st .cursor .rows ≤ wholeRows (st .table) → arriveAll ls st .cursor .short ≡ true
+shorts [] st h k = absurd (omega arith)
+shorts (x ∷ ls) st h k = go (room st) refl (λ a b. shorts ls (push x st) a b)
+  where
+    go : (b : Bool) → room st ≡ b
+        → (wholeRows (push x st .table) < push x st .cursor .rows + length ls → push x st .cursor .rows ≤ wholeRows (push x st .table) → arriveAll ls (push x st) .cursor .short ≡ true)
+        → arriveAll ls (push x st) .cursor .short ≡ true
+    go true e i =
+        let m : st .cursor .rows < wholeRows (st .table) = ltb-true _ _ e in
+        let (a, b, c) = push-fills x st m in
+        let l = ap (λ (n : ℕ). n / rowWidth) (push-length x st) in
+        i (omega (arith, a, l)) (omega (arith, a, l))
+    go false e i = stays-short ls (push x st) (rw e)

@@ -1,0 +1,35 @@
+-- The answer of a reading of one value alone, from where it stands at its end.
+use mathlib.Core.Bool.{cond, _||_}
+use mathlib.Core.List.{List, _++_}
+use Prim.Native.Nat.{ℕ, _*_, _-_}
+use lib.Dec.{eqb, ltb, leb}
+use lib.ListN.{length, take, replicate}
+use Rattle.layout.specs.Written.{rowWidth}
+use Rattle.layout.specs.Answers as answers
+use Rattle.layout.specs.Answers.{Result, wholeRows, refusal, acceptance}
+use Rattle.layout.specs.Alone.{limit}
+use Rattle.leaf.specs.State.{State}
+use Rattle.leaf.specs.declared.Answer as declared
+use Rattle.leaf.specs.declared.Answer.the-variants.{Accepted, Refused}
+
+-- The counts, or the number and place, of each case
+abbrev pub answerOf : declared.Answer → answers.Answer
+answerOf (Accepted entities rows) = answers.accepted entities rows
+answerOf (Refused number place) = answers.refused number place
+
+abbrev pub resultOf : declared.Answer → List ℕ → Result
+resultOf a table = record { answer = answerOf a; table = table }
+
+-- 1; the refusal that the cursor met; 12; 13; or what was stored, then only 0
+unfoldable pub finished : (entities : ℕ) → List ℕ → State → Result
+finished entities s st =
+    let c = st .cursor in
+    let table = st .table in
+    cond (leb (length s) limit)
+    (cond (eqb (c .refusal) 0)
+    (cond (leb (length s) (c .at))
+    (cond (c .short || ltb (wholeRows table) (c .rows)) (refusal 13 0 table)
+    (acceptance (record { entities = entities; leaves = c .rows; rows = take (rowWidth * c .rows) table }) table))
+    (refusal 12 (c .at) table))
+    (refusal (c .refusal) (c .place) table))
+    (refusal 1 0 table)

@@ -1,0 +1,5 @@
+pub mod State
+pub mod Run
+pub mod Finish
+pub mod Theorems
+pub mod Private

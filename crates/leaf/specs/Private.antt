@@ -1,0 +1,15 @@
+-- What only the private functions of the crate promise one another. No public contract cites anything here.
+use mathlib.Core.List.{List, [], _∷_, _++_}
+use Prim.Native.Nat.{ℕ, _-_}
+use lib.ListN.{length, take, replicate}
+use Rattle.layout.specs.Reading.{Outcome, ok, refuse}
+use Rattle.leaf.specs.State.{State, stop, put}
+
+-- A number that is read, as a leaf with a sort's number
+abbrev pub land : (sort : ℕ) → Outcome ℕ ℕ → State → State
+land sort (ok n next) st = put (sort ∷ st .cursor .at ∷ n ∷ []) n next st
+land sort (refuse n p) st = stop n p st
+
+-- A table with 0 from an index on
+unfoldable pub cleared : List ℕ → (from : ℕ) → List ℕ
+cleared table from = take from table ++ replicate (length table - from) 0

@@ -11,7 +11,10 @@ use Rattle.layout.specs.Layout.{Sort, Leaf, plain, string, Verdict, fine, wrong
 use Rattle.layout.specs.Written.{rowWidth}
 use Rattle.layout.specs.Reading.{Outcome, ok, refuse, _>>=_, need, plainAt, textAt, read}
 use Rattle.layout.specs.Answers.{Result, Given, wholeRows, acceptance, refusal, tell}
-use Rattle.layout.specs.Alone.{limit, given, readAlone, readingAlone}
+use Rattle.layout.specs.Alone.{limit, given, readAlone, readingAlone, ExactAlone}
+use Rattle.layout.specs.Theorems.{Bytes}
+use Rattle.layout.proofs.Alone.{alone-exact}
+use Rattle.leaf.specs.declared.Cursor.{Cursor}
 use Rattle.leaf.specs.State.{State, state, start, stop, arrive, guarded, plainStep, textStep}
 use Rattle.leaf.specs.Run.{run, pass, verdictOn}
 use Rattle.leaf.specs.Finish.{finished}
@@ -128,3 +131,11 @@ run-alone L entities s table = go (leb (length s) limit) refl
     go : (b : Bool) → leb (length s) limit ≡ b → finished entities s (run L s (state start table)) ≡ tell (need b 1 0 (read L s 0 >>= λ ls end. need (leb (length s) end) 12 end (ok (given entities ls) end))) table
     go true e = by-outcome entities s table (leb-true _ _ e) (read L s 0) (run L s (state start table)) (run-read s (leb-true _ _ e) L (state start table) refl)
     go false e = finished-long entities s (run L s (state start table)) (leb-false _ _ e) ∙ refusal-same 1 0 (run L s (state start table) .table) table (run-length L s (state start table))
+
+-- What a function promises that reads one value alone, from its three calls
+pub decoded : (L : Layout) (entities : ℕ) (s table : List ℕ) (c : Cursor) (st : State) (r : Result) → Bytes s
+    → c ≡ start → st ≡ run L s (state c table) → r ≡ finished entities s st
+    → (r ≡ readingAlone L entities s table) × ExactAlone L entities s table r
+decoded L entities s table c st r u a b e =
+    let q : r ≡ readingAlone L entities s table = e ∙ rw (b, a) (run-alone L entities s table) in
+    (q, rw q (alone-exact L entities s u table))

@@ -4,7 +4,7 @@ ghost use mathlib.Core.Path.{_≡_};
 ghost use Prim.Native.Nat.{_+_, _<_, _≤_};
 ghost use lib.ListN.{length};
 ghost use Rattle.layout.specs.Layout.{Kind, Tag, Flag, Number, Count, one, text};
-ghost use Rattle.layout.specs.Entities.{OptionStr};
+ghost use Rattle.layout.specs.Entities.{OptionStr, OptionU32};
 ghost use Rattle.layout.specs.Reading.{byteAt, fourAt, numberAt};
 ghost use Rattle.layout.specs.Answers.{refusal};
 ghost use Rattle.leaf.specs.State.{state, start, stopped, refusedOnce, put, guarded};
@@ -242,6 +242,17 @@ impl Cursor {
         let c = self.read_bool(s, t);
         if c.value != 0 {
             return c.read_str(s, t);
+        }
+        c
+    }
+
+    // A number that may be missing.
+    pub fn read_option_u32(self, s: &[u8], t: &mut [u32]) -> Cursor
+        ensures { λ r. ⌜ state r (now (t .exit)) ≡ run OptionU32 (now (s .entry)) (state self (now (t .entry))) ⌝ }
+    {
+        let c = self.read_bool(s, t);
+        if c.value != 0 {
+            return c.read_u32(s, t);
         }
         c
     }

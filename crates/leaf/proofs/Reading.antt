@@ -3,11 +3,11 @@ use mathlib.Core.Bool.{Bool, true, false}
 use mathlib.Core.List.{List, [], _∷_, _++_}
 use mathlib.Core.Path.{_≡_, refl, sym, ap, subst, _∙_}
 use native.Mathlib.Omega.{arith}
-use Prim.Native.Nat.{ℕ, _+_, _≤_}
-use lib.Dec.{leb, ltb}
+use Prim.Native.Nat.{ℕ, _+_, _≤_, _<_}
+use lib.Dec.{leb, ltb, eqb}
 use lib.ListN.{length, getD, take, drop, length-append, length-drop}
 use lib.Seq.{length-take-le}
-use borrow.Author.Tests.{eq-eqb, le-leb, leb-true}
+use borrow.Author.Tests.{eq-eqb, eqb-true, eqb-false, le-leb, lt-leb, leb-true, leb-false}
 use Rattle.layout.specs.Layout.{Layout, Sort, Kind, Tag, Flag, Number, Count, Leaf, plain, string, Fault, unknown-kind, unknown-tag, other-mapping, error-result, Verdict, fine, wrong, refusalOf, nothing, one, text, _then_, case, check}
 use Rattle.layout.specs.Written.{plainBytes, leafBytes, bytesOf, leafValue, rowAt}
 use Rattle.layout.specs.Reading.{Outcome, ok, refuse, _>>=_, need, judged, utf8, enough, numberAt, plainAt, bodyAt, textAt, read}
@@ -17,7 +17,7 @@ use Rattle.layout.proofs.Equations.{after, after-after, read-nothing, read-one,
 use Rattle.leaf.specs.State.{State, state, stop, put, arrive, guarded, plainStep, textStep}
 use Rattle.leaf.specs.Run.{run, pass, verdictOn}
 use Rattle.leaf.specs.Theorems.{arriveAll, Follows, moved, stops, Run-read}
-use Rattle.leaf.proofs.Forms.{Refused, halt, halt-refused, pass-refused, run-refused}
+use Rattle.leaf.proofs.Forms.{Refused, halt, halt-refused, pass-refused, run-refused, case-law}
 use Rattle.leaf.proofs.Table.{push, arriveAll-length}
 
 arriveAll-append : (a b : List Leaf) (st : State) → arriveAll (a ++ b) st ≡ arriveAll b (arriveAll a st)
@@ -205,3 +205,36 @@ module _ (s : List ℕ) (small : length s ≤ limit) where
 
 pub run-read : Run-read
 run-read s small L st z = follows s small L st z
+
+-- Of too many bytes, what begins with a leaf is refused
+plain-long : (srt : Sort) (s : List ℕ) (st : State) → limit < length s → st .cursor .refusal ≡ 0 → stop 1 0 st ≡ run (one srt) s st
+unfolding run plainStep guarded
+plain-long srt s st h k = rw (eq-eqb _ _ k, lt-leb (length s) limit h)
+
+case-long : (srt : Sort) (A : Layout) (j : ℕ → Verdict) (B : ℕ → Layout) (s : List ℕ) (st : State) → limit < length s → st .cursor .refusal ≡ 0 → run (case srt A j B) s st ≡ stop 1 0 st
+case-long srt A j B s st h k =
+    let x = stop 1 0 st in
+    let n = st .cursor .value in
+    let w : Refused x = λ e. omega arith in
+    case-law srt A j B s st x (plain-long srt s st h k)
+    ∙ rw (run-refused A s x w, pass-refused (j n) (st .cursor .at) x w) (run-refused (B n) s x w)
+
+-- What begins with a leaf and was not refused was read
+pub case-read : (srt : Sort) (A : Layout) (j : ℕ → Verdict) (B : ℕ → Layout) (s : List ℕ) (st : State)
+    → run (case srt A j B) s st .cursor .refusal ≡ 0 → (ls : List Leaf) × (next : ℕ) × (read (case srt A j B) s (st .cursor .at) ≡ ok ls next)
+case-read srt A j B s st z = begun (eqb (st .cursor .refusal) 0) refl
+  where
+    outcome : (o : Outcome ℕ (List Leaf)) → Follows st (run (case srt A j B) s st) o → read (case srt A j B) s (st .cursor .at) ≡ o
+        → (ls : List Leaf) × (next : ℕ) × (read (case srt A j B) s (st .cursor .at) ≡ ok ls next)
+    outcome (ok ls next) f e = (ls, next, e)
+    outcome (refuse n p) f e = absurd (refused-of f z)
+
+    sized : (b : Bool) → leb (length s) limit ≡ b → st .cursor .refusal ≡ 0 → (ls : List Leaf) × (next : ℕ) × (read (case srt A j B) s (st .cursor .at) ≡ ok ls next)
+    sized true e k = outcome (read (case srt A j B) s (st .cursor .at)) (run-read s (leb-true _ _ e) (case srt A j B) st k) refl
+    sized false e k = let q : _≡_ {A = ℕ} 1 0 = sym (ap (λ (x : State). x .cursor .refusal) (case-long srt A j B s st (leb-false _ _ e) k)) ∙ z in absurd (omega arith)
+
+    begun : (b : Bool) → eqb (st .cursor .refusal) 0 ≡ b → (ls : List Leaf) × (next : ℕ) × (read (case srt A j B) s (st .cursor .at) ≡ ok ls next)
+    begun true e = sized (leb (length s) limit) refl (eqb-true _ _ e)
+    begun false e =
+        let w : Refused st = eqb-false _ _ e in
+        absurd (w (sym (ap (λ (x : State). x .cursor .refusal) (run-refused (case srt A j B) s st w)) ∙ z))

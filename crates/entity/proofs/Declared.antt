@@ -1,13 +1,12 @@
 -- The result of a declaration: the verdict on its leaves by its first two bytes.
-use mathlib.Core.Bool.{Bool, true, false, cond}
-use mathlib.Core.List.{List, [], _∷_, _++_}
+use Prim.Native.Nat.{ℕ, _+_, _≤_}
+use native.Mathlib.Omega.{arith}
+use mathlib.Core.Bool.{Bool, true, false}
+use mathlib.Core.List.{List, [], _∷_}
 use mathlib.Core.Logic.{_≢_}
 use mathlib.Core.Path.{_≡_, refl, sym, ap, _∙_}
-use native.Mathlib.Omega.{arith}
-use Prim.Native.Nat.{ℕ, _+_, _≤_}
-use lib.Dec.{eqb}
 use lib.ListN.{length, getD}
-use borrow.Author.Tests.{eq-eqb, ne-eqb, leb-true}
+use borrow.Author.Tests.{ne-eqb, leb-true}
 use Rattle.layout.specs.Layout.{Leaf, Tag, plain, Verdict, fine, wrong, unknown-tag, error-result, nothing}
 use Rattle.layout.specs.Forms.{Tags, known, follows, tags}
 use Rattle.layout.specs.Entities.{SqlMapping, sqlMappings, ArgumentSql, argumentResults, DeclaredSql, asOrNumeric, resultVerdict}

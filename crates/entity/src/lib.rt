@@ -16,7 +16,7 @@ ghost use Rattle.entity.specs.Private.{TypeFunctions, AggregateName, Agg
 pub fn read_sql_declared(c: Cursor, s: &[u8], t: &mut [u32]) -> Cursor
     ensures { λ r. ⌜ state r (now (t .exit)) ≡ run SqlDeclared (now (s .entry)) (state c (now (t .entry))) ⌝ }
 {
-    let at = c.at;
+    let place = c.at;
     let c = c.read_u8(s, t);
     let kind = c.value;
     let c = c.read_str(s, t); // name
@@ -24,7 +24,7 @@ pub fn read_sql_declared(c: Cursor, s: &[u8], t: &mut [u32]) -> Cursor
         layout::SQL_DECLARED_TYPE => read_declared_type(c, s, t),
         layout::SQL_DECLARED_ENUM => read_declared_type(c, s, t),
         layout::SQL_DECLARED_FUNCTION => c,
-        _ => c.refused(9, at),
+        _ => c.refused(9, place),
     }
 }
 
@@ -351,7 +351,8 @@ pub fn read_trigger(c: Cursor, s: &[u8], t: &mut [u32]) -> Cursor
 
 // One payload alone: one entity, and nothing after it.
 pub fn decode_entity(payload: &[u8], t: &mut [u32]) -> Answer
-    ensures { λ r. ⌜ (resultOf r (now (t .exit)) ≡ readingAlone Entity 1 (now (payload .entry)) (now (t .entry))) × ExactAlone Entity 1 (now (payload .entry)) (now (t .entry)) (resultOf r (now (t .exit))) ⌝ }
+    ensures { λ r. ⌜ resultOf r (now (t .exit)) ≡ readingAlone Entity 1 (now (payload .entry)) (now (t .entry)) ⌝ }
+    ensures { λ r. ⌜ ExactAlone Entity 1 (now (payload .entry)) (now (t .entry)) (resultOf r (now (t .exit))) ⌝ }
 {
     let c = read_entity(Cursor::new(), payload, t);
     c.finish(payload, t, 1)

@@ -1,9 +1,9 @@
 -- The reading of one value alone, and how any reading through a table meets demand 3's statement.
+use Prim.Native.Nat.{ℕ, zero, suc, _+_, _≤_, _<_}
+use native.Mathlib.Omega.{arith}
 use mathlib.Core.Bool.{Bool, true, false, cond}
 use mathlib.Core.List.{List, [], _∷_, append-nil}
 use mathlib.Core.Path.{_≡_, refl, sym, ap, _∙_}
-use native.Mathlib.Omega.{arith}
-use Prim.Native.Nat.{ℕ, zero, suc, _+_, _≤_, _<_}
 use lib.Dec.{leb}
 use lib.ListN.{length, drop}
 use borrow.Author.Tests.{leb-true, leb-false, le-leb, lt-leb}
@@ -11,11 +11,11 @@ use Rattle.layout.specs.Layout.{Layout, Value, leaves}
 use Rattle.layout.specs.Written.{bytes}
 use Rattle.layout.specs.Reading.{Outcome, ok, refuse, read}
 use Rattle.layout.specs.Answers.{Accepts, Result, Given, wholeRows, acceptance, refusal, tell, refusalIn, Exact}
-use Rattle.layout.specs.Alone.{limit, given, readAlone, readingAlone, Derives, ExactAlone}
+use Rattle.layout.specs.Alone.{limit, given, readAlone, readingAlone, Derives}
 use Rattle.layout.specs.Theorems.{Bytes, Alone-exact, Alone-only, Alone-unique}
-use Rattle.layout.proofs.Walk as walk
 use Rattle.layout.proofs.Walk.{All, all-ok, all-bind, all-need, all-when}
 use Rattle.layout.proofs.InBytes.{read-complete, read-sound, value-unique}
+use Rattle.layout.proofs.Walk as walk
 
 -- A reading m finds what a good derivation gives, and only that
 pub record Finds {D : Type 0} (Good : D → Type 0) (gives : D → Given) (m : Outcome ℕ Given) : Type 0 where

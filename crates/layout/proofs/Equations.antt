@@ -1,7 +1,7 @@
 -- The reading of each form of layout by the readings of its parts.
+use Prim.Native.Nat.{ℕ}
 use mathlib.Core.List.{List, [], _∷_, _++_, append-assoc}
 use mathlib.Core.Path.{_≡_, refl}
-use Prim.Native.Nat.{ℕ}
 use Rattle.layout.specs.Layout.{Sort, Leaf, plain, string, Verdict, fine, wrong, Layout, nothing, one, text, _then_, case, check, Value, leaves}
 use Rattle.layout.specs.Reading.{Outcome, ok, refuse, _>>=_, judged, walk, plainAt, textAt, inBytes, readValue, read}
 

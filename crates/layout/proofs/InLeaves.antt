@@ -1,14 +1,14 @@
 -- The reading from a list of leaves.
+use Prim.Native.Nat.{ℕ}
+use native.Mathlib.Omega.{arith}
 use mathlib.Core.Bool.{Bool, and-eq-true-iff, true}
 use mathlib.Core.List.{List, [], _∷_, _++_, append-assoc}
 use mathlib.Core.Logic.{_↔_}
 use mathlib.Core.Option.{some}
 use mathlib.Core.Path.{_≡_, refl}
-use native.Mathlib.Omega.{arith}
-use Prim.Native.Nat.{ℕ, _<_}
 use lib.ListN.{length}
 use borrow.Author.Tests.{ltb-true, lt-ltb}
-use Rattle.layout.specs.Layout.{Sort, Sort-discrete, Leaf, plain, string, bound, Layout, Value, leaves, Meets, Fits, Proper}
+use Rattle.layout.specs.Layout.{Sort, Sort-discrete, Leaf, plain, string, bound, Layout, Value, leaves, Meets, Fits}
 use Rattle.layout.specs.Reading.{Outcome, ok, refuse, utf8}
 use Rattle.layout.specs.Spelling.{same, plainOf, textOf, inLeaves, spellValue, restOf, fits, spell}
 use Rattle.layout.specs.Theorems.{Spell-exact, Leaves-unique}

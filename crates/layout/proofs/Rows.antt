@@ -1,12 +1,12 @@
 -- Leaves, their bytes and their rows.
-use mathlib.Core.List.{List, [], _∷_, _++_, append-assoc}
-use mathlib.Core.Path.{_≡_, refl, ap}
+use Prim.Native.Nat.{ℕ, _+_}
 use native.Mathlib.Nat.{add-zero, add-assoc}
 use native.Mathlib.Omega.{arith}
-use Prim.Native.Nat.{ℕ, _+_}
+use mathlib.Core.List.{List, [], _∷_, _++_, append-assoc}
+use mathlib.Core.Path.{refl, ap}
 use lib.ListN.{length, length-append}
-use Rattle.layout.specs.Layout.{Kind, Tag, Flag, Number, Count, Leaf, plain, string}
-use Rattle.layout.specs.Written.{leafBytes, bytesOf, rowAt, rowsFrom}
+use Rattle.layout.specs.Layout.{Kind, Tag, Flag, Number, Count, plain, string}
+use Rattle.layout.specs.Written.{leafBytes, bytesOf, rowAt}
 use Rattle.layout.specs.Theorems.{Leaf-byte, Leaves-bytes, Rows-length, Rows-append}
 
 pub leaf-byte : Leaf-byte

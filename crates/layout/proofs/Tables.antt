@@ -1,13 +1,13 @@
 -- Tables of tags: the verdict on a tag, and what follows it.
+use Prim.Native.Nat.{ℕ, zero, suc, _+_, _≤_, _<_}
+use native.Mathlib.Omega.{arith}
 use mathlib.Core.Bool.{Bool, true, false, cond}
-use mathlib.Core.List.{List, [], _∷_, _++_}
+use mathlib.Core.List.{[], _∷_, _++_}
 use mathlib.Core.Logic.{_≢_}
 use mathlib.Core.Path.{_≡_, refl}
-use native.Mathlib.Omega.{arith}
-use Prim.Native.Nat.{ℕ, zero, suc, _+_, _≤_, _<_}
 use lib.Dec.{eqb}
 use borrow.Author.Tests.{ne-eqb, eqb-false}
-use Rattle.layout.specs.Layout.{Fault, Verdict, fine, wrong, Layout, nothing}
+use Rattle.layout.specs.Layout.{Fault, fine, wrong, nothing}
 use Rattle.layout.specs.Forms.{Tags, known, follows, bare}
 
 -- n is not in the table

@@ -1,9 +1,9 @@
 -- The reading of a layout from any source, by induction on the layout: what it answers is a proper value whose leaves stand
 -- there (sound), and a proper value whose leaves stand there is its answer (complete).
+use Prim.Native.Nat.{ℕ}
 use mathlib.Core.Bool.{Bool, true, false}
 use mathlib.Core.List.{List, [], _∷_, _++_}
 use mathlib.Core.Path.{_≡_, refl, ap, subst}
-use Prim.Native.Nat.{ℕ}
 use Rattle.layout.specs.Layout.{Sort, Leaf, plain, string, Verdict, fine, wrong, Layout, nothing, one, text, _then_, case, check, Value, leaves, Meets}
 use Rattle.layout.specs.Reading.{Outcome, ok, refuse, _>>=_, need, judged, Source, walk}
 

@@ -1,7 +1,7 @@
 -- One payload, metadata record or mapping read alone: document 01, "When intake says no".
+use Prim.Native.Nat.{ℕ, _≤_}
 use mathlib.Core.List.{List}
 use mathlib.Core.Path.{_≡_}
-use Prim.Native.Nat.{ℕ, _≤_}
 use lib.Dec.{leb}
 use lib.ListN.{length}
 use Rattle.layout.specs.Layout.{Leaf, Layout, Value, leaves, Proper}

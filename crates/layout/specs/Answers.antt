@@ -1,13 +1,12 @@
 -- What a reading answers, and what it leaves in the lent table: document 01, "The reading: entities and rows", and demand 3.
+use Prim.Native.Nat.{ℕ, _-_, _*_, _/_, _≤_, _<_}
 use mathlib.Core.Bool.{cond}
 use mathlib.Core.List.{List, _++_}
 use mathlib.Core.Logic.{_↔_}
 use mathlib.Core.Path.{_≡_}
-use Prim.Native.Nat.{ℕ, _-_, _*_, _/_, _≤_, _<_}
 use lib.Dec.{leb}
 use lib.ListN.{length, replicate}
-use Rattle.layout.specs.Layout.{Leaf}
-use Rattle.layout.specs.Written.{rowWidth, rowsFrom}
+use Rattle.layout.specs.Written.{rowWidth}
 use Rattle.layout.specs.Reading.{Outcome, ok, refuse}
 
 -- The numbers of entities and of rows; or a refusal's number and place, with both counts 0

@@ -1,8 +1,8 @@
 -- The layouts of the nine entities and of their parts, in the order of `decode_entity` and of the `read_` functions of
 -- src/section.rs, by whose names they go. Beside a part stands the name of its field, beside a tag that of its constant.
+use Prim.Native.Nat.{ℕ}
 use mathlib.Core.Bool.{cond, _||_}
 use mathlib.Core.List.{List, [], _∷_, _++_, map}
-use Prim.Native.Nat.{ℕ}
 use lib.Dec.{eqb}
 use lib.ListN.{getD}
 use Rattle.layout.specs.Layout.{Leaf, Verdict, fine, wrong, other-mapping, error-result, Layout, nothing, text, _then_, check}

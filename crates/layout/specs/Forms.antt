@@ -1,7 +1,7 @@
 -- The forms in which document 01 writes its layouts. T is `text`.
+use Prim.Native.Nat.{ℕ, zero, suc}
 use mathlib.Core.Bool.{cond}
 use mathlib.Core.List.{List, [], _∷_}
-use Prim.Native.Nat.{ℕ, zero, suc}
 use lib.Dec.{eqb}
 use Rattle.layout.specs.Layout.{Kind, Tag, Flag, Number, Count, Fault, unknown-kind, unknown-tag, Verdict, fine, wrong, Layout, nothing, one, _then_, case}
 

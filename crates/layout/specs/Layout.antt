@@ -1,8 +1,8 @@
 -- Layouts: what a part of an entity is made of; the values of a layout, which are its derivations; their leaves.
 -- Nothing here is taken from the reader.
+use Prim.Native.Nat.{ℕ, _<_}
 use mathlib.Core.List.{List, [], _∷_, _++_}
 use mathlib.Core.Path.{_≡_}
-use Prim.Native.Nat.{ℕ, _<_}
 use lib.ListN.{length}
 use Rattle.text.specs.Rfc3629.{Utf8}
 

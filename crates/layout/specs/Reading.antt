@@ -1,7 +1,7 @@
 -- Reading a layout from bytes, by document 01's refusals 5 to 11: the first bad read is refused.
+use Prim.Native.Nat.{ℕ, _+_, _*_}
 use mathlib.Core.Bool.{Bool, true, false}
 use mathlib.Core.List.{List}
-use Prim.Native.Nat.{ℕ, _+_, _*_}
 use lib.Dec.{ltb, leb}
 use lib.ListN.{length, getD, take, drop}
 use Rattle.layout.specs.Layout.{Sort, Kind, Tag, Flag, Number, Count, Leaf, Verdict, fine, wrong, refusalOf, Layout, nothing, one, text, _then_, case, check, Value, leaves}

@@ -1,9 +1,9 @@
 -- The same reading with a list of leaves as its source: whether the list begins with the leaves of a value.
+use Prim.Native.Nat.{ℕ}
 use mathlib.Core.Bool.{Bool, _&&_}
 use mathlib.Core.List.{List, [], _∷_}
 use mathlib.Core.Option.{Option, none, some}
 use mathlib.Core.Path.{_≡_}
-use Prim.Native.Nat.{ℕ}
 use lib.Dec.{ltb}
 use lib.ListN.{length}
 use Rattle.layout.specs.Layout.{Sort, Sort-discrete, Leaf, plain, string, bound, Layout, Value}

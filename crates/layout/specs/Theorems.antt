@@ -1,9 +1,9 @@
 -- What is proved of the definitions, as statements, for every layout. Each comment names the proof, in proofs/.
+use Prim.Native.Nat.{ℕ, _+_, _*_, _≤_, _<_}
 use mathlib.Core.List.{List, _++_}
 use mathlib.Core.Logic.{_↔_}
 use mathlib.Core.Option.{some}
 use mathlib.Core.Path.{_≡_}
-use Prim.Native.Nat.{ℕ, _+_, _*_, _≤_, _<_}
 use lib.ListN.{length, getD, drop}
 use Rattle.layout.specs.Layout.{Leaf, Layout, Value, leaves, Proper}
 use Rattle.layout.specs.Written.{leafBytes, bytesOf, bytes, rowWidth, rowsFrom}

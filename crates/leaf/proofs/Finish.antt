@@ -1,16 +1,16 @@
 -- A reading from the start, finished, is the reading of one value alone.
-use mathlib.Core.Bool.{Bool, true, false, cond}
-use mathlib.Core.List.{List, []}
-use mathlib.Core.Path.{_≡_, refl, sym, ap, subst, _∙_}
+use Prim.Native.Nat.{ℕ, _*_, _/_, _≤_, _<_}
 use native.Mathlib.Omega.{arith}
-use Prim.Native.Nat.{ℕ, _+_, _*_, _/_, _≤_, _<_}
+use mathlib.Core.Bool.{Bool, true, false, cond}
+use mathlib.Core.List.{List}
+use mathlib.Core.Path.{_≡_, refl, sym, ap, _∙_}
 use lib.Dec.{leb, eqb}
-use lib.ListN.{length, take, replicate}
+use lib.ListN.{length, take}
 use borrow.Author.Tests.{eq-eqb, ne-eqb, le-leb, lt-leb, le-ltb, leb-true, leb-false}
 use Rattle.layout.specs.Layout.{Sort, Leaf, plain, string, Verdict, fine, wrong, Layout, nothing, one, text, _then_, case, check}
 use Rattle.layout.specs.Written.{rowWidth}
 use Rattle.layout.specs.Reading.{Outcome, ok, refuse, _>>=_, need, plainAt, textAt, read}
-use Rattle.layout.specs.Answers.{Result, Given, wholeRows, acceptance, refusal, tell}
+use Rattle.layout.specs.Answers.{Result, wholeRows, acceptance, refusal, tell}
 use Rattle.layout.specs.Alone.{limit, given, readAlone, readingAlone, ExactAlone}
 use Rattle.layout.specs.Theorems.{Bytes}
 use Rattle.layout.proofs.Alone.{alone-exact}

@@ -1,9 +1,8 @@
 -- How a function that reads a part meets `run`: a law for each form of layout.
-use mathlib.Core.Bool.{cond}
-use mathlib.Core.List.{List, [], _++_}
-use mathlib.Core.Path.{_≡_, refl, sym, ap, _∙_}
-use native.Mathlib.Omega.{arith}
 use Prim.Native.Nat.{ℕ, zero, suc, _+_, _-_, _<_, _≤_}
+use native.Mathlib.Omega.{arith}
+use mathlib.Core.List.{List, _++_}
+use mathlib.Core.Path.{_≡_, refl, sym, ap, _∙_}
 use borrow.Author.Tests.{ne-eqb}
 use Rattle.layout.specs.Layout.{Layout, Sort, Kind, Tag, Flag, Count, Leaf, Fault, unknown-kind, unknown-tag, Verdict, fine, wrong, refusalOf, nothing, one, text, _then_, case, check}
 use Rattle.layout.specs.Forms.{times, any, list, may, onlyIf, Tags, tags, tagsAfter, kinds, known, follows, bare}

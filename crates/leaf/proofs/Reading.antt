@@ -1,20 +1,19 @@
 -- `run` follows `read`, by induction on the layout.
+use Prim.Native.Nat.{ℕ, _+_, _≤_, _<_}
+use native.Mathlib.Omega.{arith}
 use mathlib.Core.Bool.{Bool, true, false}
 use mathlib.Core.List.{List, [], _∷_, _++_}
 use mathlib.Core.Path.{_≡_, refl, sym, ap, subst, _∙_}
-use native.Mathlib.Omega.{arith}
-use Prim.Native.Nat.{ℕ, _+_, _≤_, _<_}
 use lib.Dec.{leb, ltb, eqb}
 use lib.ListN.{length, getD, take, drop, length-append, length-drop}
 use lib.Seq.{length-take-le}
 use borrow.Author.Tests.{eq-eqb, eqb-true, eqb-false, le-leb, lt-leb, leb-true, leb-false}
 use Rattle.layout.specs.Layout.{Layout, Sort, Kind, Tag, Flag, Number, Count, Leaf, plain, string, Fault, unknown-kind, unknown-tag, other-mapping, error-result, Verdict, fine, wrong, refusalOf, nothing, one, text, _then_, case, check}
-use Rattle.layout.specs.Written.{plainBytes, leafBytes, bytesOf, leafValue, rowAt}
+use Rattle.layout.specs.Written.{plainBytes, leafBytes, bytesOf, rowAt}
 use Rattle.layout.specs.Reading.{Outcome, ok, refuse, _>>=_, need, judged, utf8, enough, numberAt, plainAt, bodyAt, textAt, read}
 use Rattle.layout.specs.Alone.{limit}
-use Rattle.layout.proofs.InBytes.{bytesOf-append}
 use Rattle.layout.proofs.Equations.{after, after-after, read-nothing, read-one, read-text, read-then, read-case, read-check}
-use Rattle.leaf.specs.State.{State, state, stop, put, arrive, guarded, plainStep, textStep}
+use Rattle.leaf.specs.State.{State, stop, put, arrive, guarded, plainStep, textStep}
 use Rattle.leaf.specs.Run.{run, pass, verdictOn}
 use Rattle.leaf.specs.Theorems.{arriveAll, Follows, moved, stops, Run-read}
 use Rattle.leaf.proofs.Forms.{Refused, halt, halt-refused, pass-refused, run-refused, case-law}

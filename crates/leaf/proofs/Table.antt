@@ -1,19 +1,18 @@
 -- The table: what is stored in it, and what is cleared.
-use mathlib.Core.Bool.{Bool, true, false, cond}
-use mathlib.Core.List.{List, [], _∷_, _++_, append-assoc, append-nil}
-use mathlib.Core.Path.{_≡_, refl, sym, ap, _∙_}
+use Prim.Native.Nat.{ℕ, suc, _+_, _-_, _*_, _/_, _≤_, _<_}
 use native.Mathlib.Nat.{add-zero, sub-zero}
 use native.Mathlib.Omega.{arith}
-use Prim.Native.Nat.{ℕ, suc, _+_, _-_, _*_, _/_, _≤_, _<_}
+use mathlib.Core.Bool.{Bool, true, false, cond}
+use mathlib.Core.List.{List, [], _∷_, _++_, append-assoc, append-nil}
+use mathlib.Core.Path.{_≡_, refl, ap, _∙_}
 use lib.ListN.{length, take, set, length-set, replicate}
 use lib.Seq.{take-suc-set, take-all}
-use borrow.Author.Tests.{lt-ltb, le-ltb, ltb-true, ltb-false}
-use lib.Dec.{ltb}
+use borrow.Author.Tests.{lt-ltb, ltb-true}
 use Rattle.layout.specs.Layout.{Leaf, plain, string}
-use Rattle.layout.specs.Written.{leafBytes, bytesOf, leafValue, rowWidth, rowAt, rowsFrom}
+use Rattle.layout.specs.Written.{leafBytes, rowWidth, rowAt, rowsFrom}
 use Rattle.layout.specs.Reading.{Outcome, ok, refuse}
 use Rattle.layout.specs.Answers.{wholeRows}
-use Rattle.leaf.specs.State.{State, state, store, room, put, arrive}
+use Rattle.leaf.specs.State.{State, store, room, arrive}
 use Rattle.leaf.specs.Private.{cleared}
 use Rattle.leaf.specs.Theorems.{arriveAll}
 

@@ -1,16 +1,16 @@
 -- The answer of a reading of one value alone, from where it stands at its end.
+use Prim.Native.Nat.{ℕ, _*_}
 use mathlib.Core.Bool.{cond, _||_}
-use mathlib.Core.List.{List, _++_}
-use Prim.Native.Nat.{ℕ, _*_, _-_}
+use mathlib.Core.List.{List}
 use lib.Dec.{eqb, ltb, leb}
-use lib.ListN.{length, take, replicate}
+use lib.ListN.{length, take}
 use Rattle.layout.specs.Written.{rowWidth}
-use Rattle.layout.specs.Answers as answers
 use Rattle.layout.specs.Answers.{Result, wholeRows, refusal, acceptance}
 use Rattle.layout.specs.Alone.{limit}
 use Rattle.leaf.specs.State.{State}
-use Rattle.leaf.specs.declared.Answer as declared
 use Rattle.leaf.specs.declared.Answer.the-variants.{Accepted, Refused}
+use Rattle.layout.specs.Answers as answers
+use Rattle.leaf.specs.declared.Answer as declared
 
 -- The counts, or the number and place, of each case
 abbrev pub answerOf : declared.Answer → answers.Answer

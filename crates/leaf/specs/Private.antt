@@ -1,6 +1,6 @@
 -- What only the private functions of the crate promise one another. No public contract cites anything here.
-use mathlib.Core.List.{List, [], _∷_, _++_}
 use Prim.Native.Nat.{ℕ, _-_}
+use mathlib.Core.List.{List, [], _∷_, _++_}
 use lib.ListN.{length, take, replicate}
 use Rattle.layout.specs.Reading.{Outcome, ok, refuse}
 use Rattle.leaf.specs.State.{State, stop, put}

@@ -1,6 +1,6 @@
 -- What the reading of a layout makes of a cursor and its table, one leaf after the other.
-use mathlib.Core.List.{List}
 use Prim.Native.Nat.{ℕ}
+use mathlib.Core.List.{List}
 use Rattle.layout.specs.Layout.{Leaf, Verdict, fine, wrong, refusalOf, Layout, nothing, one, text, _then_, case, check}
 use Rattle.layout.specs.Reading.{Outcome, ok, refuse, read}
 use Rattle.leaf.specs.State.{State, state, refusedOnce, plainStep, textStep}

@@ -1,7 +1,7 @@
 -- Where a reading stands: a cursor, and the table that it fills; and what the read of one leaf makes of the two.
+use Prim.Native.Nat.{ℕ, _+_, _*_}
 use mathlib.Core.Bool.{Bool, true, false, cond}
 use mathlib.Core.List.{List, [], _∷_}
-use Prim.Native.Nat.{ℕ, _+_, _*_}
 use lib.Dec.{eqb, ltb, leb}
 use lib.ListN.{length, set}
 use Rattle.layout.specs.Layout.{Sort, Leaf, plain, string}

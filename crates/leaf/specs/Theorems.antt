@@ -1,10 +1,10 @@
 -- What is proved of the definitions, as statements, for every layout. Each comment names the proof, in proofs/.
+use Prim.Native.Nat.{ℕ, _+_, _≤_}
 use mathlib.Core.List.{List, [], _∷_}
 use mathlib.Core.Path.{_≡_}
-use Prim.Native.Nat.{ℕ, _+_, _≤_}
 use lib.ListN.{length}
 use Rattle.layout.specs.Layout.{Leaf, Layout}
-use Rattle.layout.specs.Written.{leafBytes, bytesOf}
+use Rattle.layout.specs.Written.{leafBytes}
 use Rattle.layout.specs.Reading.{Outcome, ok, refuse, read}
 use Rattle.layout.specs.Alone.{limit, readingAlone}
 use Rattle.leaf.specs.State.{State, state, start, arrive}

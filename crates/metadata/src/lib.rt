@@ -170,7 +170,8 @@ pub fn read_type_origin(c: Cursor, s: &[u8], t: &mut [u32]) -> Cursor
 
 // One mapping alone, and nothing after it.
 pub fn decode_sql_mapping(s: &[u8], t: &mut [u32]) -> Answer
-    ensures { λ r. ⌜ (resultOf r (now (t .exit)) ≡ readingAlone SqlMapping 0 (now (s .entry)) (now (t .entry))) × ExactAlone SqlMapping 0 (now (s .entry)) (now (t .entry)) (resultOf r (now (t .exit))) ⌝ }
+    ensures { λ r. ⌜ resultOf r (now (t .exit)) ≡ readingAlone SqlMapping 0 (now (s .entry)) (now (t .entry)) ⌝ }
+    ensures { λ r. ⌜ ExactAlone SqlMapping 0 (now (s .entry)) (now (t .entry)) (resultOf r (now (t .exit))) ⌝ }
 {
     let c = read_sql_mapping(Cursor::new(), s, t);
     c.finish(s, t, 0)
@@ -178,7 +179,8 @@ pub fn decode_sql_mapping(s: &[u8], t: &mut [u32]) -> Answer
 
 // One metadata record alone, and nothing after it.
 pub fn decode_function_metadata_type(s: &[u8], t: &mut [u32]) -> Answer
-    ensures { λ r. ⌜ (resultOf r (now (t .exit)) ≡ readingAlone FunctionMetadataType 0 (now (s .entry)) (now (t .entry))) × ExactAlone FunctionMetadataType 0 (now (s .entry)) (now (t .entry)) (resultOf r (now (t .exit))) ⌝ }
+    ensures { λ r. ⌜ resultOf r (now (t .exit)) ≡ readingAlone FunctionMetadataType 0 (now (s .entry)) (now (t .entry)) ⌝ }
+    ensures { λ r. ⌜ ExactAlone FunctionMetadataType 0 (now (s .entry)) (now (t .entry)) (resultOf r (now (t .exit))) ⌝ }
 {
     let c = read_function_metadata_type(Cursor::new(), s, t);
     c.finish(s, t, 0)

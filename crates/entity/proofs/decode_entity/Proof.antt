@@ -1,33 +1,24 @@
-use Rattle.leaf.proofs.Finish.{decoded}
-use Rattle.layout.specs.Entities.{Entity}
-use denote.Ref.{now}
+-- The three calls are the reading alone.
 use native.Mathlib.Omega.{arith}
 use borrow.Author.Needs.{needs}
+use denote.Ref.{now}
+use Rattle.leaf.proofs.Finish.{decoded}
+use Rattle.layout.specs.Entities.{Entity}
 use Rattle.entity.proofs.decode_entity.Statement.{statement}
 use Rattle.entity.proofs.decode_entity.Tie as tie
-use Rattle.entity.proofs.decode_entity.Reads as reads
-use Rattle.entity.proofs.decode_entity.Lts as lts
-use Rattle.entity.proofs.read_entity.Reads as read-entity-reads
-use Rattle.leaf.proofs.Cursor.finish.Reads as finish-reads
-use Rattle.leaf.proofs.Cursor.new.Reads as new-reads
 
--- src/lib.rt:356:25
 new-requires : tie.Need-new-requires
 new-requires c κs = tt
 
--- src/lib.rt:356:9
 read-entity-requires : tie.Need-read-entity-requires
 read-entity-requires c κs = tt
 
--- src/lib.rt:357:5
 finish-requires : tie.Need-finish-requires
 finish-requires c κs = tt
 
--- src/lib.rt:353:1
 same-length : tie.Need-same-length
 same-length c = search needs
 
--- src/lib.rt:353:1
 returns : tie.Need-returns
 returns c = decoded Entity 1 (now (c .before .before .before .before .before .before .before .before .before .before .before .args .payload)) (now (c .before .before .before .before .before .before .before .before .before .before .before .args .t)) _ _ _ (λ i h. omega (arith, c .before .before .before .before .before .before .before .before .before .before .shared-slice-known .given i)) (c .before .before .before .before .before .before .before .before .new .ensures) (c .before .before .before .before .before .before .read-entity .ensures) (c .before .before .finish .ensures)
 

@@ -1,48 +1,32 @@
+-- The parts, one after the other.
+use mathlib.Core.Path.{_∙_}
 use Rattle.entity.specs.Private.{AggregateName, AggregateTypes, AggregateFunctions, MovingAggregate, AggregateOptions}
 use Rattle.layout.specs.Entities.{Aggregate}
 use Rattle.leaf.specs.Run.{run}
-use mathlib.Core.Path.{_∙_}
-use borrow.Author.Needs.{needs}
 use Rattle.entity.proofs.read_aggregate.Statement.{statement}
 use Rattle.entity.proofs.read_aggregate.Tie as tie
-use Rattle.entity.proofs.read_aggregate.Reads as reads
-use Rattle.entity.proofs.read_aggregate.Lts as lts
-use Rattle.entity.proofs.read_aggregate_functions.Reads as read-aggregate-functions-reads
-use Rattle.entity.proofs.read_aggregate_name.Reads as read-aggregate-name-reads
-use Rattle.entity.proofs.read_aggregate_options.Reads as read-aggregate-options-reads
-use Rattle.entity.proofs.read_aggregate_types.Reads as read-aggregate-types-reads
-use Rattle.entity.proofs.read_moving_aggregate.Reads as read-moving-aggregate-reads
-use Rattle.used.proofs.read_to_sql_config.Reads as read-to-sql-config-reads
 
--- src/lib.rt:285:9
 read-aggregate-name-requires : tie.Need-read-aggregate-name-requires
 read-aggregate-name-requires c κs = tt
 
--- src/lib.rt:286:9
 read-aggregate-types-requires : tie.Need-read-aggregate-types-requires
 read-aggregate-types-requires c κs = tt
 
--- src/lib.rt:287:9
 read-aggregate-functions-requires : tie.Need-read-aggregate-functions-requires
 read-aggregate-functions-requires c κs = tt
 
--- src/lib.rt:288:9
 read-moving-aggregate-requires : tie.Need-read-moving-aggregate-requires
 read-moving-aggregate-requires c κs = tt
 
--- src/lib.rt:289:9
 read-aggregate-options-requires : tie.Need-read-aggregate-options-requires
 read-aggregate-options-requires c κs = tt
 
--- src/lib.rt:290:5
 read-to-sql-config-requires : tie.Need-read-to-sql-config-requires
 read-to-sql-config-requires c κs = tt
 
--- src/lib.rt:282:1
 same-length : tie.Need-same-length
 same-length c = c .before .before .read-to-sql-config .kept .1 .1 .0 ∙ c .before .before .before .before .before .before .read-aggregate-options .kept .1 .1 .0 ∙ c .before .before .before .before .before .before .before .before .before .before .read-moving-aggregate .kept .1 .1 .0 ∙ c .before .before .before .before .before .before .before .before .before .before .before .before .before .before .read-aggregate-functions .kept .1 .1 .0 ∙ c .before .before .before .before .before .before .before .before .before .before .before .before .before .before .before .before .before .before .read-aggregate-types .kept .1 .1 .0 ∙ c .before .before .before .before .before .before .before .before .before .before .before .before .before .before .before .before .before .before .before .before .before .before .read-aggregate-name .kept .1 .1 .0
 
--- src/lib.rt:282:1
 returns : tie.Need-returns
 unfolding run Aggregate AggregateName AggregateTypes AggregateFunctions MovingAggregate AggregateOptions
 returns c = cc (c .before .before .before .before .before .before .before .before .before .before .before .before .before .before .before .before .before .before .before .before .before .before .read-aggregate-name .ensures, c .before .before .before .before .before .before .before .before .before .before .before .before .before .before .before .before .before .before .read-aggregate-types .ensures, c .before .before .before .before .before .before .before .before .before .before .before .before .before .before .read-aggregate-functions .ensures, c .before .before .before .before .before .before .before .before .before .before .read-moving-aggregate .ensures, c .before .before .before .before .before .before .read-aggregate-options .ensures, c .before .before .read-to-sql-config .ensures)

@@ -1,44 +1,31 @@
+-- The parts, one after the other.
+use mathlib.Core.Path.{_∙_}
 use Rattle.entity.specs.Private.{AggregateName}
 use Rattle.leaf.specs.Run.{run}
-use mathlib.Core.Path.{_∙_}
-use borrow.Author.Needs.{needs}
 use Rattle.entity.proofs.read_aggregate_name.Statement.{statement}
 use Rattle.entity.proofs.read_aggregate_name.Tie as tie
-use Rattle.entity.proofs.read_aggregate_name.Reads as reads
-use Rattle.entity.proofs.read_aggregate_name.Lts as lts
-use Rattle.leaf.proofs.Cursor.read_bool.Reads as read-bool-reads
-use Rattle.leaf.proofs.Cursor.read_str.Reads as read-str-reads
-use Rattle.leaf.proofs.Cursor.read_u32.Reads as read-u32-reads
 
--- src/lib.rt:296:9
 read-str-requires : tie.Need-read-str-requires
 read-str-requires c κs = tt
 
--- src/lib.rt:297:9
 read-str-requires-2 : tie.Need-read-str-requires-2
 read-str-requires-2 c κs = tt
 
--- src/lib.rt:298:9
 read-str-requires-3 : tie.Need-read-str-requires-3
 read-str-requires-3 c κs = tt
 
--- src/lib.rt:299:9
 read-u32-requires : tie.Need-read-u32-requires
 read-u32-requires c κs = tt
 
--- src/lib.rt:300:9
 read-str-requires-4 : tie.Need-read-str-requires-4
 read-str-requires-4 c κs = tt
 
--- src/lib.rt:301:5
 read-bool-requires : tie.Need-read-bool-requires
 read-bool-requires c κs = tt
 
--- src/lib.rt:293:1
 same-length : tie.Need-same-length
 same-length c = c .before .before .read-bool .kept .1 .1 .0 ∙ c .before .before .before .before .before .before .read-str4 .kept .1 .1 .0 ∙ c .before .before .before .before .before .before .before .before .before .before .read-u32 .kept .1 .1 .0 ∙ c .before .before .before .before .before .before .before .before .before .before .before .before .before .before .read-str3 .kept .1 .1 .0 ∙ c .before .before .before .before .before .before .before .before .before .before .before .before .before .before .before .before .before .before .read-str2 .kept .1 .1 .0 ∙ c .before .before .before .before .before .before .before .before .before .before .before .before .before .before .before .before .before .before .before .before .before .before .read-str .kept .1 .1 .0
 
--- src/lib.rt:293:1
 returns : tie.Need-returns
 unfolding run AggregateName
 returns c = cc (c .before .before .before .before .before .before .before .before .before .before .before .before .before .before .before .before .before .before .before .before .before .before .read-str .ensures, c .before .before .before .before .before .before .before .before .before .before .before .before .before .before .before .before .before .before .read-str2 .ensures, c .before .before .before .before .before .before .before .before .before .before .before .before .before .before .read-str3 .ensures, c .before .before .before .before .before .before .before .before .before .before .read-u32 .ensures, c .before .before .before .before .before .before .read-str4 .ensures, c .before .before .read-bool .ensures)

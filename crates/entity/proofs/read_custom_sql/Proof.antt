@@ -1,42 +1,29 @@
+-- The parts, one after the other.
+use mathlib.Core.Path.{_∙_}
 use Rattle.entity.specs.Private.{CustomSqlText}
 use Rattle.layout.specs.Entities.{CustomSql}
 use Rattle.leaf.specs.Run.{run}
-use mathlib.Core.Path.{_∙_}
-use borrow.Author.Needs.{needs}
 use Rattle.entity.proofs.read_custom_sql.Statement.{statement}
 use Rattle.entity.proofs.read_custom_sql.Tie as tie
-use Rattle.entity.proofs.read_custom_sql.Reads as reads
-use Rattle.entity.proofs.read_custom_sql.Lts as lts
-use Rattle.entity.proofs.read_custom_sql_text.Reads as read-custom-sql-text-reads
-use Rattle.entity.proofs.read_sql_declared_list.Reads as read-sql-declared-list-reads
-use Rattle.leaf.proofs.Cursor.read_bool.Reads as read-bool-reads
-use Rattle.used.proofs.read_positioning_ref_list.Reads as read-positioning-ref-list-reads
 
--- src/lib.rt:173:9
 read-custom-sql-text-requires : tie.Need-read-custom-sql-text-requires
 read-custom-sql-text-requires c κs = tt
 
--- src/lib.rt:174:9
 read-bool-requires : tie.Need-read-bool-requires
 read-bool-requires c κs = tt
 
--- src/lib.rt:175:9
 read-bool-requires-2 : tie.Need-read-bool-requires-2
 read-bool-requires-2 c κs = tt
 
--- src/lib.rt:176:9
 read-positioning-ref-list-requires : tie.Need-read-positioning-ref-list-requires
 read-positioning-ref-list-requires c κs = tt
 
--- src/lib.rt:177:5
 read-sql-declared-list-requires : tie.Need-read-sql-declared-list-requires
 read-sql-declared-list-requires c κs = tt
 
--- src/lib.rt:170:1
 same-length : tie.Need-same-length
 same-length c = c .before .before .read-sql-declared-list .kept .1 .1 .0 ∙ c .before .before .before .before .before .before .read-positioning-ref-list .kept .1 .1 .0 ∙ c .before .before .before .before .before .before .before .before .before .before .read-bool2 .kept .1 .1 .0 ∙ c .before .before .before .before .before .before .before .before .before .before .before .before .before .before .read-bool .kept .1 .1 .0 ∙ c .before .before .before .before .before .before .before .before .before .before .before .before .before .before .before .before .before .before .read-custom-sql-text .kept .1 .1 .0
 
--- src/lib.rt:170:1
 returns : tie.Need-returns
 unfolding run CustomSql CustomSqlText
 returns c = cc (c .before .before .before .before .before .before .before .before .before .before .before .before .before .before .before .before .before .before .read-custom-sql-text .ensures, c .before .before .before .before .before .before .before .before .before .before .before .before .before .before .read-bool .ensures, c .before .before .before .before .before .before .before .before .before .before .read-bool2 .ensures, c .before .before .before .before .before .before .read-positioning-ref-list .ensures, c .before .before .read-sql-declared-list .ensures)

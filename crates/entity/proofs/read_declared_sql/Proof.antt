@@ -1,91 +1,67 @@
+-- Refused, an error, As, Numeric, or another mapping.
+use mathlib.Core.Path.{sym, _∙_}
+use borrow.Author.Needs.{needs}
+use borrow.Author.Tests.{ne-eqb}
 use Rattle.entity.proofs.Declared.{result-refused, result-left, verdict-error, mapping-left, verdict-mapping}
 use Rattle.leaf.proofs.Forms.{check-law}
 use Rattle.layout.specs.Entities.{DeclaredSql}
-use borrow.Author.Tests.{ne-eqb}
-use denote.Ref.{now}
-use native.Mathlib.Omega.{arith}
-use mathlib.Core.Path.{refl, sym, _∙_}
-use borrow.Author.Needs.{needs}
 use Rattle.entity.proofs.read_declared_sql.Statement.{statement}
 use Rattle.entity.proofs.read_declared_sql.Tie as tie
-use Rattle.entity.proofs.read_declared_sql.Reads as reads
-use Rattle.entity.proofs.read_declared_sql.Lts as lts
-use Rattle.entity.proofs.wide.Reads as wide-reads
-use Rattle.leaf.proofs.Cursor.refused.Reads as refused-reads
-use Rattle.metadata.proofs.read_argument_sql.Reads as read-argument-sql-reads
 
--- src/lib.rt:43:9
 read-argument-sql-requires : tie.Need-read-argument-sql-requires
 read-argument-sql-requires c κs = tt
 
--- src/lib.rt:45:9
 same-length : tie.Need-same-length
 same-length c = search needs
 
--- src/lib.rt:45:9
 returns : tie.Need-returns
 returns c = result-refused _ _ _ (c .before .before .before .before .read-argument-sql .ensures) (c .if1 .taken)
 
--- src/lib.rt:47:23
 shared-slice-read-wide : tie.Need-shared-slice-read-wide
 shared-slice-read-wide c = search (needs, result-left _ _ _ (c .before .before .before .before .before .read-argument-sql .ensures) (c .before .if1 .left))
 
--- src/lib.rt:47:9
 wide-requires : tie.Need-wide-requires
 wide-requires c κs = tt
 
--- src/lib.rt:49:9
 refused-requires : tie.Need-refused-requires
 refused-requires c κs = tt
 
--- src/lib.rt:49:9
 same-length-2 : tie.Need-same-length-2
 same-length-2 c = search needs
 
--- src/lib.rt:49:9
 returns-2 : tie.Need-returns-2
 unfolding DeclaredSql
 returns-2 c = check-law _ _ _ _ _ _ (c .before .before .before .before .before .before .before .before .read-argument-sql .ensures) (rw (verdict-error _ _ _ (c .before .before .before .before .before .before .before .before .read-argument-sql .ensures) (c .before .before .before .before .if1 .left) (rw (c .before .before .wide .ensures) at (c .before .if2 .taken)), c .refused .ensures))
 
--- src/lib.rt:51:15
 add-tag : tie.Need-add-tag
 add-tag c = search (needs, result-left _ _ _ (c .before .before .before .before .before .before .before .read-argument-sql .ensures) (c .before .before .before .if1 .left))
 
--- src/lib.rt:52:24
 shared-slice-read-wide-2 : tie.Need-shared-slice-read-wide-2
 shared-slice-read-wide-2 c = search (needs, mapping-left _ _ _ (c .before .before .before .before .before .before .before .before .read-argument-sql .ensures) (c .before .before .before .before .if1 .left) (sym (c .before .before .wide .ensures) ∙ c .before .if2 .left))
 
--- src/lib.rt:52:9
 wide-requires-2 : tie.Need-wide-requires-2
 wide-requires-2 c κs = tt
 
--- src/lib.rt:56:14
 refused-requires-2 : tie.Need-refused-requires-2
 refused-requires-2 c κs = tt
 
--- src/lib.rt:39:1
 same-length-3 : tie.Need-same-length-3
 same-length-3 c = search needs
 
--- src/lib.rt:39:1
 returns-3 : tie.Need-returns-3
 unfolding DeclaredSql
 returns-3 c = check-law _ _ _ _ _ _ (c .before .before .before .before .before .before .before .before .before .before .read-argument-sql .ensures) (rw (verdict-mapping _ _ _ (c .before .before .before .before .before .before .before .before .before .before .read-argument-sql .ensures) (c .before .before .before .before .before .before .if1 .left) (sym (c .before .before .before .before .wide .ensures) ∙ c .before .before .before .if2 .left), ← c .before .wide2 .ensures, c .match .keys1))
 
--- src/lib.rt:39:1
 same-length-4 : tie.Need-same-length-4
 same-length-4 c = search needs
 
--- src/lib.rt:39:1
 returns-4 : tie.Need-returns-4
 unfolding DeclaredSql
 returns-4 c = check-law _ _ _ _ _ _ (c .before .before .before .before .before .before .before .before .before .before .read-argument-sql .ensures) (rw (verdict-mapping _ _ _ (c .before .before .before .before .before .before .before .before .before .before .read-argument-sql .ensures) (c .before .before .before .before .before .before .if1 .left) (sym (c .before .before .before .before .wide .ensures) ∙ c .before .before .before .if2 .left), ← c .before .wide2 .ensures, c .match .keys2))
 
--- src/lib.rt:39:1
 same-length-5 : tie.Need-same-length-5
 same-length-5 c = search needs
 
--- src/lib.rt:39:1
 returns-5 : tie.Need-returns-5
 unfolding DeclaredSql
 returns-5 c = check-law _ _ _ _ _ _ (c .before .before .before .before .before .before .before .before .before .before .before .read-argument-sql .ensures) (rw (verdict-mapping _ _ _ (c .before .before .before .before .before .before .before .before .before .before .before .read-argument-sql .ensures) (c .before .before .before .before .before .before .before .if1 .left) (sym (c .before .before .before .before .before .wide .ensures) ∙ c .before .before .before .before .if2 .left), ← c .before .before .wide2 .ensures, ne-eqb _ 1 (c .before .match .rest .0 .1), ne-eqb _ 3 (c .before .match .rest .1), c .refused2 .ensures))

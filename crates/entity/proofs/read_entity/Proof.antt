@@ -1,154 +1,109 @@
+-- Each known kind, and the rest.
+use mathlib.Core.Path.{_∙_, refl}
 use Rattle.layout.specs.Entities.{Entity, entities}
 use Rattle.leaf.proofs.Forms.{kinds-in, kinds-wrong}
-use mathlib.Core.Path.{_∙_}
-use mathlib.Core.Path.{refl}
-use native.Mathlib.Omega.{arith}
-use borrow.Author.Needs.{needs}
 use Rattle.entity.proofs.read_entity.Statement.{statement}
 use Rattle.entity.proofs.read_entity.Tie as tie
-use Rattle.entity.proofs.read_entity.Reads as reads
-use Rattle.entity.proofs.read_entity.Lts as lts
-use Rattle.entity.proofs.read_aggregate.Reads as read-aggregate-reads
-use Rattle.entity.proofs.read_custom_sql.Reads as read-custom-sql-reads
-use Rattle.entity.proofs.read_enum.Reads as read-enum-reads
-use Rattle.entity.proofs.read_function.Reads as read-function-reads
-use Rattle.entity.proofs.read_ord_or_hash.Reads as read-ord-or-hash-reads
-use Rattle.entity.proofs.read_schema.Reads as read-schema-reads
-use Rattle.entity.proofs.read_trigger.Reads as read-trigger-reads
-use Rattle.entity.proofs.read_type.Reads as read-type-reads
-use Rattle.leaf.proofs.Cursor.read_kind.Reads as read-kind-reads
-use Rattle.leaf.proofs.Cursor.refused.Reads as refused-reads
 
--- src/lib.rt:145:9
 read-kind-requires : tie.Need-read-kind-requires
 read-kind-requires c κs = tt
 
--- src/lib.rt:148:34
 read-schema-requires : tie.Need-read-schema-requires
 read-schema-requires c κs = tt
 
--- src/lib.rt:149:38
 read-custom-sql-requires : tie.Need-read-custom-sql-requires
 read-custom-sql-requires c κs = tt
 
--- src/lib.rt:150:36
 read-function-requires : tie.Need-read-function-requires
 read-function-requires c κs = tt
 
--- src/lib.rt:151:32
 read-type-requires : tie.Need-read-type-requires
 read-type-requires c κs = tt
 
--- src/lib.rt:152:32
 read-enum-requires : tie.Need-read-enum-requires
 read-enum-requires c κs = tt
 
--- src/lib.rt:153:31
 read-ord-or-hash-requires : tie.Need-read-ord-or-hash-requires
 read-ord-or-hash-requires c κs = tt
 
--- src/lib.rt:154:32
 read-ord-or-hash-requires-2 : tie.Need-read-ord-or-hash-requires-2
 read-ord-or-hash-requires-2 c κs = tt
 
--- src/lib.rt:155:37
 read-aggregate-requires : tie.Need-read-aggregate-requires
 read-aggregate-requires c κs = tt
 
--- src/lib.rt:156:35
 read-trigger-requires : tie.Need-read-trigger-requires
 read-trigger-requires c κs = tt
 
--- src/lib.rt:157:14
 refused-requires : tie.Need-refused-requires
 refused-requires c κs = tt
 
--- src/lib.rt:141:1
 same-length : tie.Need-same-length
 same-length c = c .before .before .read-schema .kept .1 .1 .0 ∙ c .before .before .before .before .before .before .before .read-kind .kept .1 .1 .0
 
--- src/lib.rt:141:1
 returns : tie.Need-returns
 unfolding Entity
-returns c = kinds-in (entities) 1 _ _ _ _ (c .before .before .before .before .before .before .before .read-kind .ensures) (c .before .before .before .before .match .keys1) refl (c .before .before .read-schema .ensures)
+returns c = kinds-in entities 1 _ _ _ _ (c .before .before .before .before .before .before .before .read-kind .ensures) (c .before .before .before .before .match .keys1) refl (c .before .before .read-schema .ensures)
 
--- src/lib.rt:141:1
 same-length-2 : tie.Need-same-length-2
 same-length-2 c = c .before .before .read-custom-sql .kept .1 .1 .0 ∙ c .before .before .before .before .before .before .before .read-kind .kept .1 .1 .0
 
--- src/lib.rt:141:1
 returns-2 : tie.Need-returns-2
 unfolding Entity
-returns-2 c = kinds-in (entities) 2 _ _ _ _ (c .before .before .before .before .before .before .before .read-kind .ensures) (c .before .before .before .before .match .keys2) refl (c .before .before .read-custom-sql .ensures)
+returns-2 c = kinds-in entities 2 _ _ _ _ (c .before .before .before .before .before .before .before .read-kind .ensures) (c .before .before .before .before .match .keys2) refl (c .before .before .read-custom-sql .ensures)
 
--- src/lib.rt:141:1
 same-length-3 : tie.Need-same-length-3
 same-length-3 c = c .before .before .read-function .kept .1 .1 .0 ∙ c .before .before .before .before .before .before .before .read-kind .kept .1 .1 .0
 
--- src/lib.rt:141:1
 returns-3 : tie.Need-returns-3
 unfolding Entity
-returns-3 c = kinds-in (entities) 3 _ _ _ _ (c .before .before .before .before .before .before .before .read-kind .ensures) (c .before .before .before .before .match .keys3) refl (c .before .before .read-function .ensures)
+returns-3 c = kinds-in entities 3 _ _ _ _ (c .before .before .before .before .before .before .before .read-kind .ensures) (c .before .before .before .before .match .keys3) refl (c .before .before .read-function .ensures)
 
--- src/lib.rt:141:1
 same-length-4 : tie.Need-same-length-4
 same-length-4 c = c .before .before .read-type .kept .1 .1 .0 ∙ c .before .before .before .before .before .before .before .read-kind .kept .1 .1 .0
 
--- src/lib.rt:141:1
 returns-4 : tie.Need-returns-4
 unfolding Entity
-returns-4 c = kinds-in (entities) 4 _ _ _ _ (c .before .before .before .before .before .before .before .read-kind .ensures) (c .before .before .before .before .match .keys4) refl (c .before .before .read-type .ensures)
+returns-4 c = kinds-in entities 4 _ _ _ _ (c .before .before .before .before .before .before .before .read-kind .ensures) (c .before .before .before .before .match .keys4) refl (c .before .before .read-type .ensures)
 
--- src/lib.rt:141:1
 same-length-5 : tie.Need-same-length-5
 same-length-5 c = c .before .before .read-enum .kept .1 .1 .0 ∙ c .before .before .before .before .before .before .before .read-kind .kept .1 .1 .0
 
--- src/lib.rt:141:1
 returns-5 : tie.Need-returns-5
 unfolding Entity
-returns-5 c = kinds-in (entities) 5 _ _ _ _ (c .before .before .before .before .before .before .before .read-kind .ensures) (c .before .before .before .before .match .keys5) refl (c .before .before .read-enum .ensures)
+returns-5 c = kinds-in entities 5 _ _ _ _ (c .before .before .before .before .before .before .before .read-kind .ensures) (c .before .before .before .before .match .keys5) refl (c .before .before .read-enum .ensures)
 
--- src/lib.rt:141:1
 same-length-6 : tie.Need-same-length-6
 same-length-6 c = c .before .before .read-ord-or-hash .kept .1 .1 .0 ∙ c .before .before .before .before .before .before .before .read-kind .kept .1 .1 .0
 
--- src/lib.rt:141:1
 returns-6 : tie.Need-returns-6
 unfolding Entity
-returns-6 c = kinds-in (entities) 6 _ _ _ _ (c .before .before .before .before .before .before .before .read-kind .ensures) (c .before .before .before .before .match .keys6) refl (c .before .before .read-ord-or-hash .ensures)
+returns-6 c = kinds-in entities 6 _ _ _ _ (c .before .before .before .before .before .before .before .read-kind .ensures) (c .before .before .before .before .match .keys6) refl (c .before .before .read-ord-or-hash .ensures)
 
--- src/lib.rt:141:1
 same-length-7 : tie.Need-same-length-7
 same-length-7 c = c .before .before .read-ord-or-hash2 .kept .1 .1 .0 ∙ c .before .before .before .before .before .before .before .read-kind .kept .1 .1 .0
 
--- src/lib.rt:141:1
 returns-7 : tie.Need-returns-7
 unfolding Entity
-returns-7 c = kinds-in (entities) 7 _ _ _ _ (c .before .before .before .before .before .before .before .read-kind .ensures) (c .before .before .before .before .match .keys7) refl (c .before .before .read-ord-or-hash2 .ensures)
+returns-7 c = kinds-in entities 7 _ _ _ _ (c .before .before .before .before .before .before .before .read-kind .ensures) (c .before .before .before .before .match .keys7) refl (c .before .before .read-ord-or-hash2 .ensures)
 
--- src/lib.rt:141:1
 same-length-8 : tie.Need-same-length-8
 same-length-8 c = c .before .before .read-aggregate .kept .1 .1 .0 ∙ c .before .before .before .before .before .before .before .read-kind .kept .1 .1 .0
 
--- src/lib.rt:141:1
 returns-8 : tie.Need-returns-8
 unfolding Entity
-returns-8 c = kinds-in (entities) 8 _ _ _ _ (c .before .before .before .before .before .before .before .read-kind .ensures) (c .before .before .before .before .match .keys8) refl (c .before .before .read-aggregate .ensures)
+returns-8 c = kinds-in entities 8 _ _ _ _ (c .before .before .before .before .before .before .before .read-kind .ensures) (c .before .before .before .before .match .keys8) refl (c .before .before .read-aggregate .ensures)
 
--- src/lib.rt:141:1
 same-length-9 : tie.Need-same-length-9
 same-length-9 c = c .before .before .read-trigger .kept .1 .1 .0 ∙ c .before .before .before .before .before .before .before .read-kind .kept .1 .1 .0
 
--- src/lib.rt:141:1
 returns-9 : tie.Need-returns-9
 unfolding Entity
-returns-9 c = kinds-in (entities) 9 _ _ _ _ (c .before .before .before .before .before .before .before .read-kind .ensures) (c .before .before .before .before .match .keys9) refl (c .before .before .read-trigger .ensures)
+returns-9 c = kinds-in entities 9 _ _ _ _ (c .before .before .before .before .before .before .before .read-kind .ensures) (c .before .before .before .before .match .keys9) refl (c .before .before .read-trigger .ensures)
 
--- src/lib.rt:141:1
 same-length-10 : tie.Need-same-length-10
 same-length-10 c = c .before .before .before .before .read-kind .kept .1 .1 .0
 
--- src/lib.rt:141:1
 returns-10 : tie.Need-returns-10
 unfolding Entity
 returns-10 c = kinds-wrong entities _ _ _ _ (c .before .before .before .before .read-kind .ensures) (c .before .match .rest .0 .0 .0 .0 .0 .0 .0 .0 .1, (c .before .match .rest .0 .0 .0 .0 .0 .0 .0 .1, (c .before .match .rest .0 .0 .0 .0 .0 .0 .1, (c .before .match .rest .0 .0 .0 .0 .0 .1, (c .before .match .rest .0 .0 .0 .0 .1, (c .before .match .rest .0 .0 .0 .1, (c .before .match .rest .0 .0 .1, (c .before .match .rest .0 .1, (c .before .match .rest .1, tt))))))))) (rw (c .refused .ensures))

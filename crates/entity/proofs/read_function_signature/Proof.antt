@@ -1,44 +1,31 @@
+-- The parts, one after the other.
+use mathlib.Core.Path.{_∙_}
 use Rattle.entity.specs.Private.{FunctionSignature}
 use Rattle.leaf.specs.Run.{run}
-use mathlib.Core.Path.{_∙_}
-use borrow.Author.Needs.{needs}
 use Rattle.entity.proofs.read_function_signature.Statement.{statement}
 use Rattle.entity.proofs.read_function_signature.Tie as tie
-use Rattle.entity.proofs.read_function_signature.Reads as reads
-use Rattle.entity.proofs.read_function_signature.Lts as lts
-use Rattle.leaf.proofs.Cursor.read_str.Reads as read-str-reads
-use Rattle.used.proofs.read_pg_extern_argument_list.Reads as read-pg-extern-argument-list-reads
-use Rattle.used.proofs.read_pg_extern_return.Reads as read-pg-extern-return-reads
 
--- src/lib.rt:203:9
 read-str-requires : tie.Need-read-str-requires
 read-str-requires c κs = tt
 
--- src/lib.rt:204:9
 read-str-requires-2 : tie.Need-read-str-requires-2
 read-str-requires-2 c κs = tt
 
--- src/lib.rt:205:9
 read-str-requires-3 : tie.Need-read-str-requires-3
 read-str-requires-3 c κs = tt
 
--- src/lib.rt:206:9
 read-str-requires-4 : tie.Need-read-str-requires-4
 read-str-requires-4 c κs = tt
 
--- src/lib.rt:207:9
 read-pg-extern-argument-list-requires : tie.Need-read-pg-extern-argument-list-requires
 read-pg-extern-argument-list-requires c κs = tt
 
--- src/lib.rt:208:5
 read-pg-extern-return-requires : tie.Need-read-pg-extern-return-requires
 read-pg-extern-return-requires c κs = tt
 
--- src/lib.rt:200:1
 same-length : tie.Need-same-length
 same-length c = c .before .before .read-pg-extern-return .kept .1 .1 .0 ∙ c .before .before .before .before .before .before .read-pg-extern-argument-list .kept .1 .1 .0 ∙ c .before .before .before .before .before .before .before .before .before .before .read-str4 .kept .1 .1 .0 ∙ c .before .before .before .before .before .before .before .before .before .before .before .before .before .before .read-str3 .kept .1 .1 .0 ∙ c .before .before .before .before .before .before .before .before .before .before .before .before .before .before .before .before .before .before .read-str2 .kept .1 .1 .0 ∙ c .before .before .before .before .before .before .before .before .before .before .before .before .before .before .before .before .before .before .before .before .before .before .read-str .kept .1 .1 .0
 
--- src/lib.rt:200:1
 returns : tie.Need-returns
 unfolding run FunctionSignature
 returns c = cc (c .before .before .before .before .before .before .before .before .before .before .before .before .before .before .before .before .before .before .before .before .before .before .read-str .ensures, c .before .before .before .before .before .before .before .before .before .before .before .before .before .before .before .before .before .before .read-str2 .ensures, c .before .before .before .before .before .before .before .before .before .before .before .before .before .before .read-str3 .ensures, c .before .before .before .before .before .before .before .before .before .before .read-str4 .ensures, c .before .before .before .before .before .before .read-pg-extern-argument-list .ensures, c .before .before .read-pg-extern-return .ensures)

@@ -1,31 +1,22 @@
+-- The parts, one after the other.
+use mathlib.Core.Path.{_∙_}
 use Rattle.entity.specs.Private.{NameFileLine}
 use Rattle.leaf.specs.Run.{run}
-use mathlib.Core.Path.{_∙_}
-use borrow.Author.Needs.{needs}
 use Rattle.entity.proofs.read_name_file_line.Statement.{statement}
 use Rattle.entity.proofs.read_name_file_line.Tie as tie
-use Rattle.entity.proofs.read_name_file_line.Reads as reads
-use Rattle.entity.proofs.read_name_file_line.Lts as lts
-use Rattle.leaf.proofs.Cursor.read_str.Reads as read-str-reads
-use Rattle.leaf.proofs.Cursor.read_u32.Reads as read-u32-reads
 
--- src/lib.rt:241:9
 read-str-requires : tie.Need-read-str-requires
 read-str-requires c κs = tt
 
--- src/lib.rt:242:9
 read-str-requires-2 : tie.Need-read-str-requires-2
 read-str-requires-2 c κs = tt
 
--- src/lib.rt:243:5
 read-u32-requires : tie.Need-read-u32-requires
 read-u32-requires c κs = tt
 
--- src/lib.rt:238:1
 same-length : tie.Need-same-length
 same-length c = c .before .before .read-u32 .kept .1 .1 .0 ∙ c .before .before .before .before .before .before .read-str2 .kept .1 .1 .0 ∙ c .before .before .before .before .before .before .before .before .before .before .read-str .kept .1 .1 .0
 
--- src/lib.rt:238:1
 returns : tie.Need-returns
 unfolding run NameFileLine
 returns c = cc

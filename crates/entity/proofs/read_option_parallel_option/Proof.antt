@@ -1,36 +1,26 @@
+-- The thing follows, or its flag is 0.
+use mathlib.Core.Path.{_∙_}
 use Rattle.layout.specs.Entities.{OptionParallelOption}
 use Rattle.leaf.proofs.Forms.{may-in, may-out}
-use mathlib.Core.Path.{_∙_}
-use borrow.Author.Needs.{needs}
 use Rattle.entity.proofs.read_option_parallel_option.Statement.{statement}
 use Rattle.entity.proofs.read_option_parallel_option.Tie as tie
-use Rattle.entity.proofs.read_option_parallel_option.Reads as reads
-use Rattle.entity.proofs.read_option_parallel_option.Lts as lts
-use Rattle.entity.proofs.read_parallel_option.Reads as read-parallel-option-reads
-use Rattle.leaf.proofs.Cursor.read_bool.Reads as read-bool-reads
 
--- src/lib.rt:113:9
 read-bool-requires : tie.Need-read-bool-requires
 read-bool-requires c κs = tt
 
--- src/lib.rt:115:9
 read-parallel-option-requires : tie.Need-read-parallel-option-requires
 read-parallel-option-requires c κs = tt
 
--- src/lib.rt:115:9
 same-length : tie.Need-same-length
 same-length c = c .before .before .read-parallel-option .kept .1 .1 .0 ∙ c .before .before .before .before .before .before .before .before .read-bool .kept .1 .1 .0
 
--- src/lib.rt:115:9
 returns : tie.Need-returns
 unfolding OptionParallelOption
 returns c = may-in _ _ _ _ _ (c .before .before .before .before .before .before .before .before .read-bool .ensures) (c .before .before .before .before .if1 .taken) (c .before .before .read-parallel-option .ensures)
 
--- src/lib.rt:110:1
 same-length-2 : tie.Need-same-length-2
 same-length-2 c = c .before .before .before .before .read-bool .kept .1 .1 .0
 
--- src/lib.rt:110:1
 returns-2 : tie.Need-returns-2
 unfolding OptionParallelOption
 returns-2 c = may-out _ _ _ _ (c .before .before .before .before .read-bool .ensures) (c .if1 .left)

@@ -1,41 +1,29 @@
+-- The parts, one after the other.
+use mathlib.Core.Path.{_∙_}
 use Rattle.entity.specs.Private.{NameFileLine}
 use Rattle.layout.specs.Entities.{OrdOrHash}
 use Rattle.leaf.specs.Run.{run}
-use mathlib.Core.Path.{_∙_}
-use borrow.Author.Needs.{needs}
 use Rattle.entity.proofs.read_ord_or_hash.Statement.{statement}
 use Rattle.entity.proofs.read_ord_or_hash.Tie as tie
-use Rattle.entity.proofs.read_ord_or_hash.Reads as reads
-use Rattle.entity.proofs.read_ord_or_hash.Lts as lts
-use Rattle.entity.proofs.read_name_file_line.Reads as read-name-file-line-reads
-use Rattle.leaf.proofs.Cursor.read_str.Reads as read-str-reads
-use Rattle.used.proofs.read_to_sql_config.Reads as read-to-sql-config-reads
 
--- src/lib.rt:275:9
 read-name-file-line-requires : tie.Need-read-name-file-line-requires
 read-name-file-line-requires c κs = tt
 
--- src/lib.rt:276:9
 read-str-requires : tie.Need-read-str-requires
 read-str-requires c κs = tt
 
--- src/lib.rt:277:9
 read-str-requires-2 : tie.Need-read-str-requires-2
 read-str-requires-2 c κs = tt
 
--- src/lib.rt:278:9
 read-str-requires-3 : tie.Need-read-str-requires-3
 read-str-requires-3 c κs = tt
 
--- src/lib.rt:279:5
 read-to-sql-config-requires : tie.Need-read-to-sql-config-requires
 read-to-sql-config-requires c κs = tt
 
--- src/lib.rt:272:1
 same-length : tie.Need-same-length
 same-length c = c .before .before .read-to-sql-config .kept .1 .1 .0 ∙ c .before .before .before .before .before .before .read-str3 .kept .1 .1 .0 ∙ c .before .before .before .before .before .before .before .before .before .before .read-str2 .kept .1 .1 .0 ∙ c .before .before .before .before .before .before .before .before .before .before .before .before .before .before .read-str .kept .1 .1 .0 ∙ c .before .before .before .before .before .before .before .before .before .before .before .before .before .before .before .before .before .before .read-name-file-line .kept .1 .1 .0
 
--- src/lib.rt:272:1
 returns : tie.Need-returns
 unfolding run OrdOrHash NameFileLine
 returns c = cc (c .before .before .before .before .before .before .before .before .before .before .before .before .before .before .before .before .before .before .read-name-file-line .ensures, c .before .before .before .before .before .before .before .before .before .before .before .before .before .before .read-str .ensures, c .before .before .before .before .before .before .before .before .before .before .read-str2 .ensures, c .before .before .before .before .before .before .read-str3 .ensures, c .before .before .read-to-sql-config .ensures)

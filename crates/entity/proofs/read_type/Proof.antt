@@ -1,43 +1,29 @@
+-- The parts, one after the other.
+use mathlib.Core.Path.{_∙_}
 use Rattle.entity.specs.Private.{NameFileLine, TypePaths, TypeFunctions}
 use Rattle.layout.specs.Entities.{PostgresType}
 use Rattle.leaf.specs.Run.{run}
-use mathlib.Core.Path.{_∙_}
-use borrow.Author.Needs.{needs}
 use Rattle.entity.proofs.read_type.Statement.{statement}
 use Rattle.entity.proofs.read_type.Tie as tie
-use Rattle.entity.proofs.read_type.Reads as reads
-use Rattle.entity.proofs.read_type.Lts as lts
-use Rattle.entity.proofs.read_name_file_line.Reads as read-name-file-line-reads
-use Rattle.entity.proofs.read_type_functions.Reads as read-type-functions-reads
-use Rattle.entity.proofs.read_type_paths.Reads as read-type-paths-reads
-use Rattle.leaf.proofs.Cursor.read_option_u32.Reads as read-option-u32-reads
-use Rattle.used.proofs.read_to_sql_config.Reads as read-to-sql-config-reads
 
--- src/lib.rt:231:9
 read-name-file-line-requires : tie.Need-read-name-file-line-requires
 read-name-file-line-requires c κs = tt
 
--- src/lib.rt:232:9
 read-type-paths-requires : tie.Need-read-type-paths-requires
 read-type-paths-requires c κs = tt
 
--- src/lib.rt:233:9
 read-type-functions-requires : tie.Need-read-type-functions-requires
 read-type-functions-requires c κs = tt
 
--- src/lib.rt:234:9
 read-to-sql-config-requires : tie.Need-read-to-sql-config-requires
 read-to-sql-config-requires c κs = tt
 
--- src/lib.rt:235:5
 read-option-u32-requires : tie.Need-read-option-u32-requires
 read-option-u32-requires c κs = tt
 
--- src/lib.rt:228:1
 same-length : tie.Need-same-length
 same-length c = c .before .before .read-option-u32 .kept .1 .1 .0 ∙ c .before .before .before .before .before .before .read-to-sql-config .kept .1 .1 .0 ∙ c .before .before .before .before .before .before .before .before .before .before .read-type-functions .kept .1 .1 .0 ∙ c .before .before .before .before .before .before .before .before .before .before .before .before .before .before .read-type-paths .kept .1 .1 .0 ∙ c .before .before .before .before .before .before .before .before .before .before .before .before .before .before .before .before .before .before .read-name-file-line .kept .1 .1 .0
 
--- src/lib.rt:228:1
 returns : tie.Need-returns
 unfolding run PostgresType NameFileLine TypePaths TypeFunctions
 returns c = cc (c .before .before .before .before .before .before .before .before .before .before .before .before .before .before .before .before .before .before .read-name-file-line .ensures, c .before .before .before .before .before .before .before .before .before .before .before .before .before .before .read-type-paths .ensures, c .before .before .before .before .before .before .before .before .before .before .read-type-functions .ensures, c .before .before .before .before .before .before .read-to-sql-config .ensures, c .before .before .read-option-u32 .ensures)

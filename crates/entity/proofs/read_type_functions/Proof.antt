@@ -1,35 +1,25 @@
+-- The parts, one after the other.
+use mathlib.Core.Path.{_∙_}
 use Rattle.entity.specs.Private.{TypeFunctions}
 use Rattle.leaf.specs.Run.{run}
-use mathlib.Core.Path.{_∙_}
-use borrow.Author.Needs.{needs}
 use Rattle.entity.proofs.read_type_functions.Statement.{statement}
 use Rattle.entity.proofs.read_type_functions.Tie as tie
-use Rattle.entity.proofs.read_type_functions.Reads as reads
-use Rattle.entity.proofs.read_type_functions.Lts as lts
-use Rattle.leaf.proofs.Cursor.read_option_str.Reads as read-option-str-reads
-use Rattle.leaf.proofs.Cursor.read_str.Reads as read-str-reads
 
--- src/lib.rt:257:9
 read-str-requires : tie.Need-read-str-requires
 read-str-requires c κs = tt
 
--- src/lib.rt:258:9
 read-str-requires-2 : tie.Need-read-str-requires-2
 read-str-requires-2 c κs = tt
 
--- src/lib.rt:259:9
 read-option-str-requires : tie.Need-read-option-str-requires
 read-option-str-requires c κs = tt
 
--- src/lib.rt:260:5
 read-option-str-requires-2 : tie.Need-read-option-str-requires-2
 read-option-str-requires-2 c κs = tt
 
--- src/lib.rt:254:1
 same-length : tie.Need-same-length
 same-length c = c .before .before .read-option-str2 .kept .1 .1 .0 ∙ c .before .before .before .before .before .before .read-option-str .kept .1 .1 .0 ∙ c .before .before .before .before .before .before .before .before .before .before .read-str2 .kept .1 .1 .0 ∙ c .before .before .before .before .before .before .before .before .before .before .before .before .before .before .read-str .kept .1 .1 .0
 
--- src/lib.rt:254:1
 returns : tie.Need-returns
 unfolding run TypeFunctions
 returns c = cc

@@ -1,30 +1,22 @@
+-- The parts, one after the other.
+use mathlib.Core.Path.{_∙_}
 use Rattle.entity.specs.Private.{TypePaths}
 use Rattle.leaf.specs.Run.{run}
-use mathlib.Core.Path.{_∙_}
-use borrow.Author.Needs.{needs}
 use Rattle.entity.proofs.read_type_paths.Statement.{statement}
 use Rattle.entity.proofs.read_type_paths.Tie as tie
-use Rattle.entity.proofs.read_type_paths.Reads as reads
-use Rattle.entity.proofs.read_type_paths.Lts as lts
-use Rattle.leaf.proofs.Cursor.read_str.Reads as read-str-reads
 
--- src/lib.rt:249:9
 read-str-requires : tie.Need-read-str-requires
 read-str-requires c κs = tt
 
--- src/lib.rt:250:9
 read-str-requires-2 : tie.Need-read-str-requires-2
 read-str-requires-2 c κs = tt
 
--- src/lib.rt:251:5
 read-str-requires-3 : tie.Need-read-str-requires-3
 read-str-requires-3 c κs = tt
 
--- src/lib.rt:246:1
 same-length : tie.Need-same-length
 same-length c = c .before .before .read-str3 .kept .1 .1 .0 ∙ c .before .before .before .before .before .before .read-str2 .kept .1 .1 .0 ∙ c .before .before .before .before .before .before .before .before .before .before .read-str .kept .1 .1 .0
 
--- src/lib.rt:246:1
 returns : tie.Need-returns
 unfolding run TypePaths
 returns c = cc

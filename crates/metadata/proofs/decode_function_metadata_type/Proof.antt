@@ -1,33 +1,24 @@
-use Rattle.leaf.proofs.Finish.{decoded}
-use Rattle.layout.specs.Entities.{FunctionMetadataType}
-use denote.Ref.{now}
+-- The three calls are the reading alone.
 use native.Mathlib.Omega.{arith}
 use borrow.Author.Needs.{needs}
+use denote.Ref.{now}
+use Rattle.leaf.proofs.Finish.{decoded}
+use Rattle.layout.specs.Entities.{FunctionMetadataType}
 use Rattle.metadata.proofs.decode_function_metadata_type.Statement.{statement}
 use Rattle.metadata.proofs.decode_function_metadata_type.Tie as tie
-use Rattle.metadata.proofs.decode_function_metadata_type.Reads as reads
-use Rattle.metadata.proofs.decode_function_metadata_type.Lts as lts
-use Rattle.leaf.proofs.Cursor.finish.Reads as finish-reads
-use Rattle.leaf.proofs.Cursor.new.Reads as new-reads
-use Rattle.metadata.proofs.read_function_metadata_type.Reads as read-function-metadata-type-reads
 
--- src/lib.rt:183:41
 new-requires : tie.Need-new-requires
 new-requires c κs = search needs
 
--- src/lib.rt:183:9
 read-function-metadata-type-requires : tie.Need-read-function-metadata-type-requires
 read-function-metadata-type-requires c κs = search needs
 
--- src/lib.rt:184:5
 finish-requires : tie.Need-finish-requires
 finish-requires c κs = search needs
 
--- src/lib.rt:180:1
 same-length : tie.Need-same-length
 same-length c = search needs
 
--- src/lib.rt:180:1
 returns : tie.Need-returns
 returns c = decoded FunctionMetadataType 0 (now (c .before .before .before .before .before .before .before .before .before .before .before .args .s)) (now (c .before .before .before .before .before .before .before .before .before .before .before .args .t)) _ _ _ (λ i h. omega (arith, c .before .before .before .before .before .before .before .before .before .before .shared-slice-known .given i)) (c .before .before .before .before .before .before .before .before .new .ensures) (c .before .before .before .before .before .before .read-function-metadata-type .ensures) (c .before .before .finish .ensures)
 

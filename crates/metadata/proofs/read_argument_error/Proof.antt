@@ -1,60 +1,44 @@
+-- Each known tag, and the rest.
+use native.Mathlib.Omega.{arith}
+use mathlib.Core.List.{[], _∷_}
+use mathlib.Core.Logic.{⊎-elim}
+use mathlib.Core.Path.{_∙_, refl}
 use Rattle.layout.specs.Entities.{ArgumentError, argumentErrors}
 use Rattle.leaf.proofs.Forms.{tags-bare, tags-in, tags-wrong}
-use mathlib.Core.Path.{_∙_}
-use mathlib.Core.Path.{refl}
-use native.Mathlib.Omega.{arith}
-use Rattle.layout.specs.Forms.{bare}
-use mathlib.Core.List.{[], _∷_, _++_}
-use mathlib.Core.Logic.{⊎-elim}
 use Rattle.layout.specs.Forms.{_⇒_}
 use Rattle.layout.specs.Layout.{text}
-use borrow.Author.Needs.{needs}
 use Rattle.metadata.proofs.read_argument_error.Statement.{statement}
 use Rattle.metadata.proofs.read_argument_error.Tie as tie
-use Rattle.metadata.proofs.read_argument_error.Reads as reads
-use Rattle.metadata.proofs.read_argument_error.Lts as lts
-use Rattle.leaf.proofs.Cursor.read_str.Reads as read-str-reads
-use Rattle.leaf.proofs.Cursor.read_u8.Reads as read-u8-reads
-use Rattle.leaf.proofs.Cursor.refused.Reads as refused-reads
 
--- src/lib.rt:112:9
 read-u8-requires : tie.Need-read-u8-requires
 read-u8-requires c κs = tt
 
--- src/lib.rt:116:40
 read-str-requires : tie.Need-read-str-requires
 read-str-requires c κs = tt
 
--- src/lib.rt:117:14
 refused-requires : tie.Need-refused-requires
 refused-requires c κs = tt
 
--- src/lib.rt:108:1
 same-length : tie.Need-same-length
 same-length c = c .before .before .read-str .kept .1 .1 .0 ∙ c .before .before .before .before .before .before .before .read-u8 .kept .1 .1 .0
 
--- src/lib.rt:108:1
 returns : tie.Need-returns
 unfolding ArgumentError
-returns c = tags-in (argumentErrors) 7 _ _ _ _ (c .before .before .before .before .before .before .before .read-u8 .ensures) (c .before .before .before .before .match .keys1) refl (c .before .before .read-str .ensures)
+returns c = tags-in argumentErrors 7 _ _ _ _ (c .before .before .before .before .before .before .before .read-u8 .ensures) (c .before .before .before .before .match .keys1) refl (c .before .before .read-str .ensures)
 
--- src/lib.rt:108:1
 same-length-2 : tie.Need-same-length-2
 same-length-2 c = c .before .before .before .before .before .read-u8 .kept .1 .1 .0
 
--- src/lib.rt:108:1
 returns-2 : tie.Need-returns-2
 unfolding ArgumentError
 returns-2 c = tags-bare 1 6 (7 ⇒ text ∷ []) _ _ _ (c .before .before .before .before .before .read-u8 .ensures) (omega arith) (omega arith)
 
--- src/lib.rt:108:1
 same-length-3 : tie.Need-same-length-3
 same-length-3 c = c .before .before .before .before .before .read-u8 .kept .1 .1 .0
 
--- src/lib.rt:108:1
 returns-3 : tie.Need-returns-3
 unfolding ArgumentError
-returns-3 c = tags-wrong (argumentErrors) _ _ _ _ (c .before .before .before .before .before .read-u8 .ensures) (⊎-elim (λ w. omega arith) (λ w. omega arith) (c .before .if1 .came)) (rw (c .refused .ensures))
+returns-3 c = tags-wrong argumentErrors _ _ _ _ (c .before .before .before .before .before .read-u8 .ensures) (⊎-elim (λ w. omega arith) (λ w. omega arith) (c .before .if1 .came)) (rw (c .refused .ensures))
 
 pub read-argument-error-spec : {M : Type 1} → statement M
 read-argument-error-spec =

@@ -1,57 +1,40 @@
+-- Each known tag, and the rest.
+use native.Mathlib.Omega.{arith}
+use mathlib.Core.Path.{_∙_, refl}
 use Rattle.layout.specs.Entities.{ArgumentSql, argumentResults}
 use Rattle.leaf.proofs.Forms.{tags-in, tags-wrong}
-use mathlib.Core.Path.{_∙_}
-use mathlib.Core.Path.{refl}
-use native.Mathlib.Omega.{arith}
-use borrow.Author.Needs.{needs}
 use Rattle.metadata.proofs.read_argument_sql.Statement.{statement}
 use Rattle.metadata.proofs.read_argument_sql.Tie as tie
-use Rattle.metadata.proofs.read_argument_sql.Reads as reads
-use Rattle.metadata.proofs.read_argument_sql.Lts as lts
-use Rattle.leaf.proofs.Cursor.read_u8.Reads as read-u8-reads
-use Rattle.leaf.proofs.Cursor.refused.Reads as refused-reads
-use Rattle.metadata.proofs.read_argument_error.Reads as read-argument-error-reads
-use Rattle.metadata.proofs.read_sql_mapping.Reads as read-sql-mapping-reads
 
--- src/lib.rt:103:9
 read-u8-requires : tie.Need-read-u8-requires
 read-u8-requires c κs = tt
 
--- src/lib.rt:106:22
 read-sql-mapping-requires : tie.Need-read-sql-mapping-requires
 read-sql-mapping-requires c κs = tt
 
--- src/lib.rt:107:23
 read-argument-error-requires : tie.Need-read-argument-error-requires
 read-argument-error-requires c κs = tt
 
--- src/lib.rt:108:14
 refused-requires : tie.Need-refused-requires
 refused-requires c κs = tt
 
--- src/lib.rt:99:1
 same-length : tie.Need-same-length
 same-length c = c .before .before .read-sql-mapping .kept .1 .1 .0 ∙ c .before .before .before .before .before .before .before .read-u8 .kept .1 .1 .0
 
--- src/lib.rt:99:1
 returns : tie.Need-returns
 unfolding ArgumentSql
-returns c = tags-in (argumentResults) 1 _ _ _ _ (c .before .before .before .before .before .before .before .read-u8 .ensures) (c .before .before .before .before .match .keys1) refl (c .before .before .read-sql-mapping .ensures)
+returns c = tags-in argumentResults 1 _ _ _ _ (c .before .before .before .before .before .before .before .read-u8 .ensures) (c .before .before .before .before .match .keys1) refl (c .before .before .read-sql-mapping .ensures)
 
--- src/lib.rt:99:1
 same-length-2 : tie.Need-same-length-2
 same-length-2 c = c .before .before .read-argument-error .kept .1 .1 .0 ∙ c .before .before .before .before .before .before .before .read-u8 .kept .1 .1 .0
 
--- src/lib.rt:99:1
 returns-2 : tie.Need-returns-2
 unfolding ArgumentSql
-returns-2 c = tags-in (argumentResults) 2 _ _ _ _ (c .before .before .before .before .before .before .before .read-u8 .ensures) (c .before .before .before .before .match .keys2) refl (c .before .before .read-argument-error .ensures)
+returns-2 c = tags-in argumentResults 2 _ _ _ _ (c .before .before .before .before .before .before .before .read-u8 .ensures) (c .before .before .before .before .match .keys2) refl (c .before .before .read-argument-error .ensures)
 
--- src/lib.rt:99:1
 same-length-3 : tie.Need-same-length-3
 same-length-3 c = c .before .before .before .before .read-u8 .kept .1 .1 .0
 
--- src/lib.rt:99:1
 returns-3 : tie.Need-returns-3
 unfolding ArgumentSql
 returns-3 c = tags-wrong argumentResults _ _ _ _ (c .before .before .before .before .read-u8 .ensures) (omega arith) (rw (c .refused .ensures))

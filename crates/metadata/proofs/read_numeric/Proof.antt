@@ -1,35 +1,25 @@
+-- The parts, one after the other.
+use mathlib.Core.Path.{_∙_}
 use Rattle.layout.specs.Entities.{Numeric}
 use Rattle.leaf.specs.Run.{run}
-use mathlib.Core.Path.{_∙_}
-use borrow.Author.Needs.{needs}
 use Rattle.metadata.proofs.read_numeric.Statement.{statement}
 use Rattle.metadata.proofs.read_numeric.Tie as tie
-use Rattle.metadata.proofs.read_numeric.Reads as reads
-use Rattle.metadata.proofs.read_numeric.Lts as lts
-use Rattle.leaf.proofs.Cursor.read_bool.Reads as read-bool-reads
-use Rattle.leaf.proofs.Cursor.read_u32.Reads as read-u32-reads
 
--- src/lib.rt:63:9
 read-bool-requires : tie.Need-read-bool-requires
 read-bool-requires c κs = tt
 
--- src/lib.rt:64:9
 read-u32-requires : tie.Need-read-u32-requires
 read-u32-requires c κs = tt
 
--- src/lib.rt:65:9
 read-bool-requires-2 : tie.Need-read-bool-requires-2
 read-bool-requires-2 c κs = tt
 
--- src/lib.rt:66:5
 read-u32-requires-2 : tie.Need-read-u32-requires-2
 read-u32-requires-2 c κs = tt
 
--- src/lib.rt:60:1
 same-length : tie.Need-same-length
 same-length c = c .before .before .read-u322 .kept .1 .1 .0 ∙ c .before .before .before .before .before .before .read-bool2 .kept .1 .1 .0 ∙ c .before .before .before .before .before .before .before .before .before .before .read-u32 .kept .1 .1 .0 ∙ c .before .before .before .before .before .before .before .before .before .before .before .before .before .before .read-bool .kept .1 .1 .0
 
--- src/lib.rt:60:1
 returns : tie.Need-returns
 unfolding run Numeric
 returns c = cc

@@ -1,57 +1,40 @@
+-- Each known tag, and the rest.
+use native.Mathlib.Omega.{arith}
+use mathlib.Core.Path.{_∙_, refl}
 use Rattle.layout.specs.Entities.{ReturnSql, returnResults}
 use Rattle.leaf.proofs.Forms.{tags-in, tags-wrong}
-use mathlib.Core.Path.{_∙_}
-use mathlib.Core.Path.{refl}
-use native.Mathlib.Omega.{arith}
-use borrow.Author.Needs.{needs}
 use Rattle.metadata.proofs.read_return_sql.Statement.{statement}
 use Rattle.metadata.proofs.read_return_sql.Tie as tie
-use Rattle.metadata.proofs.read_return_sql.Reads as reads
-use Rattle.metadata.proofs.read_return_sql.Lts as lts
-use Rattle.leaf.proofs.Cursor.read_u8.Reads as read-u8-reads
-use Rattle.leaf.proofs.Cursor.refused.Reads as refused-reads
-use Rattle.metadata.proofs.read_returns.Reads as read-returns-reads
-use Rattle.metadata.proofs.read_returns_error.Reads as read-returns-error-reads
 
--- src/lib.rt:99:9
 read-u8-requires : tie.Need-read-u8-requires
 read-u8-requires c κs = tt
 
--- src/lib.rt:102:30
 read-returns-requires : tie.Need-read-returns-requires
 read-returns-requires c κs = tt
 
--- src/lib.rt:103:31
 read-returns-error-requires : tie.Need-read-returns-error-requires
 read-returns-error-requires c κs = tt
 
--- src/lib.rt:104:14
 refused-requires : tie.Need-refused-requires
 refused-requires c κs = tt
 
--- src/lib.rt:95:1
 same-length : tie.Need-same-length
 same-length c = c .before .before .read-returns .kept .1 .1 .0 ∙ c .before .before .before .before .before .before .before .read-u8 .kept .1 .1 .0
 
--- src/lib.rt:95:1
 returns : tie.Need-returns
 unfolding ReturnSql
-returns c = tags-in (returnResults) 1 _ _ _ _ (c .before .before .before .before .before .before .before .read-u8 .ensures) (c .before .before .before .before .match .keys1) refl (c .before .before .read-returns .ensures)
+returns c = tags-in returnResults 1 _ _ _ _ (c .before .before .before .before .before .before .before .read-u8 .ensures) (c .before .before .before .before .match .keys1) refl (c .before .before .read-returns .ensures)
 
--- src/lib.rt:95:1
 same-length-2 : tie.Need-same-length-2
 same-length-2 c = c .before .before .read-returns-error .kept .1 .1 .0 ∙ c .before .before .before .before .before .before .before .read-u8 .kept .1 .1 .0
 
--- src/lib.rt:95:1
 returns-2 : tie.Need-returns-2
 unfolding ReturnSql
-returns-2 c = tags-in (returnResults) 2 _ _ _ _ (c .before .before .before .before .before .before .before .read-u8 .ensures) (c .before .before .before .before .match .keys2) refl (c .before .before .read-returns-error .ensures)
+returns-2 c = tags-in returnResults 2 _ _ _ _ (c .before .before .before .before .before .before .before .read-u8 .ensures) (c .before .before .before .before .match .keys2) refl (c .before .before .read-returns-error .ensures)
 
--- src/lib.rt:95:1
 same-length-3 : tie.Need-same-length-3
 same-length-3 c = c .before .before .before .before .read-u8 .kept .1 .1 .0
 
--- src/lib.rt:95:1
 returns-3 : tie.Need-returns-3
 unfolding ReturnSql
 returns-3 c = tags-wrong returnResults _ _ _ _ (c .before .before .before .before .read-u8 .ensures) (omega arith) (rw (c .refused .ensures))

@@ -1,70 +1,50 @@
+-- Each known tag, and the rest.
+use native.Mathlib.Omega.{arith}
+use mathlib.Core.Path.{_∙_, refl}
 use Rattle.layout.specs.Entities.{Returns, returnsTags}
 use Rattle.leaf.proofs.Forms.{tags-in, tags-wrong}
-use mathlib.Core.Path.{_∙_}
-use mathlib.Core.Path.{refl}
-use native.Mathlib.Omega.{arith}
-use borrow.Author.Needs.{needs}
 use Rattle.metadata.proofs.read_returns.Statement.{statement}
 use Rattle.metadata.proofs.read_returns.Tie as tie
-use Rattle.metadata.proofs.read_returns.Reads as reads
-use Rattle.metadata.proofs.read_returns.Lts as lts
-use Rattle.leaf.proofs.Cursor.read_u8.Reads as read-u8-reads
-use Rattle.leaf.proofs.Cursor.refused.Reads as refused-reads
-use Rattle.metadata.proofs.read_sql_mapping.Reads as read-sql-mapping-reads
-use Rattle.metadata.proofs.read_sql_mapping_list.Reads as read-sql-mapping-list-reads
 
--- src/lib.rt:56:9
 read-u8-requires : tie.Need-read-u8-requires
 read-u8-requires c κs = tt
 
--- src/lib.rt:59:32
 read-sql-mapping-requires : tie.Need-read-sql-mapping-requires
 read-sql-mapping-requires c κs = tt
 
--- src/lib.rt:60:35
 read-sql-mapping-requires-2 : tie.Need-read-sql-mapping-requires-2
 read-sql-mapping-requires-2 c κs = tt
 
--- src/lib.rt:61:34
 read-sql-mapping-list-requires : tie.Need-read-sql-mapping-list-requires
 read-sql-mapping-list-requires c κs = tt
 
--- src/lib.rt:62:14
 refused-requires : tie.Need-refused-requires
 refused-requires c κs = tt
 
--- src/lib.rt:52:1
 same-length : tie.Need-same-length
 same-length c = c .before .before .read-sql-mapping .kept .1 .1 .0 ∙ c .before .before .before .before .before .before .before .read-u8 .kept .1 .1 .0
 
--- src/lib.rt:52:1
 returns : tie.Need-returns
 unfolding Returns
-returns c = tags-in (returnsTags) 1 _ _ _ _ (c .before .before .before .before .before .before .before .read-u8 .ensures) (c .before .before .before .before .match .keys1) refl (c .before .before .read-sql-mapping .ensures)
+returns c = tags-in returnsTags 1 _ _ _ _ (c .before .before .before .before .before .before .before .read-u8 .ensures) (c .before .before .before .before .match .keys1) refl (c .before .before .read-sql-mapping .ensures)
 
--- src/lib.rt:52:1
 same-length-2 : tie.Need-same-length-2
 same-length-2 c = c .before .before .read-sql-mapping2 .kept .1 .1 .0 ∙ c .before .before .before .before .before .before .before .read-u8 .kept .1 .1 .0
 
--- src/lib.rt:52:1
 returns-2 : tie.Need-returns-2
 unfolding Returns
-returns-2 c = tags-in (returnsTags) 2 _ _ _ _ (c .before .before .before .before .before .before .before .read-u8 .ensures) (c .before .before .before .before .match .keys2) refl (c .before .before .read-sql-mapping2 .ensures)
+returns-2 c = tags-in returnsTags 2 _ _ _ _ (c .before .before .before .before .before .before .before .read-u8 .ensures) (c .before .before .before .before .match .keys2) refl (c .before .before .read-sql-mapping2 .ensures)
 
--- src/lib.rt:52:1
 same-length-3 : tie.Need-same-length-3
 same-length-3 c = c .before .before .read-sql-mapping-list .kept .1 .1 .0 ∙ c .before .before .before .before .before .before .before .read-u8 .kept .1 .1 .0
 
--- src/lib.rt:52:1
 returns-3 : tie.Need-returns-3
 unfolding Returns
-returns-3 c = tags-in (returnsTags) 3 _ _ _ _ (c .before .before .before .before .before .before .before .read-u8 .ensures) (c .before .before .before .before .match .keys3) refl (c .before .before .read-sql-mapping-list .ensures)
+returns-3 c = tags-in returnsTags 3 _ _ _ _ (c .before .before .before .before .before .before .before .read-u8 .ensures) (c .before .before .before .before .match .keys3) refl (c .before .before .read-sql-mapping-list .ensures)
 
--- src/lib.rt:52:1
 same-length-4 : tie.Need-same-length-4
 same-length-4 c = c .before .before .before .before .read-u8 .kept .1 .1 .0
 
--- src/lib.rt:52:1
 returns-4 : tie.Need-returns-4
 unfolding Returns
 returns-4 c = tags-wrong returnsTags _ _ _ _ (c .before .before .before .before .read-u8 .ensures) (omega arith) (rw (c .refused .ensures))

@@ -1,66 +1,47 @@
+-- Each known tag, and the rest.
+use native.Mathlib.Omega.{arith}
+use mathlib.Core.Path.{_∙_, refl}
 use Rattle.layout.specs.Entities.{SqlArrayMapping, sqlArrayMappings}
 use Rattle.leaf.proofs.Forms.{run-nothing, tags-in, tags-wrong}
-use mathlib.Core.Path.{_∙_}
-use mathlib.Core.Path.{refl}
-use native.Mathlib.Omega.{arith}
-use borrow.Author.Needs.{needs}
 use Rattle.metadata.proofs.read_sql_array_mapping.Statement.{statement}
 use Rattle.metadata.proofs.read_sql_array_mapping.Tie as tie
-use Rattle.metadata.proofs.read_sql_array_mapping.Reads as reads
-use Rattle.metadata.proofs.read_sql_array_mapping.Lts as lts
-use Rattle.leaf.proofs.Cursor.read_str.Reads as read-str-reads
-use Rattle.leaf.proofs.Cursor.read_u8.Reads as read-u8-reads
-use Rattle.leaf.proofs.Cursor.refused.Reads as refused-reads
-use Rattle.metadata.proofs.read_numeric.Reads as read-numeric-reads
 
--- src/lib.rt:49:9
 read-u8-requires : tie.Need-read-u8-requires
 read-u8-requires c κs = tt
 
--- src/lib.rt:52:27
 read-str-requires : tie.Need-read-str-requires
 read-str-requires c κs = tt
 
--- src/lib.rt:53:32
 read-numeric-requires : tie.Need-read-numeric-requires
 read-numeric-requires c κs = tt
 
--- src/lib.rt:55:14
 refused-requires : tie.Need-refused-requires
 refused-requires c κs = tt
 
--- src/lib.rt:45:1
 same-length : tie.Need-same-length
 same-length c = c .before .before .read-str .kept .1 .1 .0 ∙ c .before .before .before .before .before .before .before .read-u8 .kept .1 .1 .0
 
--- src/lib.rt:45:1
 returns : tie.Need-returns
 unfolding SqlArrayMapping
-returns c = tags-in (sqlArrayMappings) 1 _ _ _ _ (c .before .before .before .before .before .before .before .read-u8 .ensures) (c .before .before .before .before .match .keys1) refl (c .before .before .read-str .ensures)
+returns c = tags-in sqlArrayMappings 1 _ _ _ _ (c .before .before .before .before .before .before .before .read-u8 .ensures) (c .before .before .before .before .match .keys1) refl (c .before .before .read-str .ensures)
 
--- src/lib.rt:45:1
 same-length-2 : tie.Need-same-length-2
 same-length-2 c = c .before .before .read-numeric .kept .1 .1 .0 ∙ c .before .before .before .before .before .before .before .read-u8 .kept .1 .1 .0
 
--- src/lib.rt:45:1
 returns-2 : tie.Need-returns-2
 unfolding SqlArrayMapping
-returns-2 c = tags-in (sqlArrayMappings) 3 _ _ _ _ (c .before .before .before .before .before .before .before .read-u8 .ensures) (c .before .before .before .before .match .keys2) refl (c .before .before .read-numeric .ensures)
+returns-2 c = tags-in sqlArrayMappings 3 _ _ _ _ (c .before .before .before .before .before .before .before .read-u8 .ensures) (c .before .before .before .before .match .keys2) refl (c .before .before .read-numeric .ensures)
 
--- src/lib.rt:45:1
 same-length-3 : tie.Need-same-length-3
 same-length-3 c = c .before .before .before .read-u8 .kept .1 .1 .0
 
--- src/lib.rt:45:1
 returns-3 : tie.Need-returns-3
 unfolding SqlArrayMapping
-returns-3 c = tags-in (sqlArrayMappings) 4 _ _ _ _ (c .before .before .before .read-u8 .ensures) (c .match .keys3) refl (run-nothing _ _)
+returns-3 c = tags-in sqlArrayMappings 4 _ _ _ _ (c .before .before .before .read-u8 .ensures) (c .match .keys3) refl (run-nothing _ _)
 
--- src/lib.rt:45:1
 same-length-4 : tie.Need-same-length-4
 same-length-4 c = c .before .before .before .before .read-u8 .kept .1 .1 .0
 
--- src/lib.rt:45:1
 returns-4 : tie.Need-returns-4
 unfolding SqlArrayMapping
 returns-4 c = tags-wrong sqlArrayMappings _ _ _ _ (c .before .before .before .before .read-u8 .ensures) (omega arith) (rw (c .refused .ensures))

@@ -1,89 +1,64 @@
+-- Each known tag, and the rest.
+use native.Mathlib.Omega.{arith}
+use mathlib.Core.Path.{_∙_, refl}
 use Rattle.layout.specs.Entities.{SqlMapping, sqlMappings}
 use Rattle.leaf.proofs.Forms.{run-nothing, tags-in, tags-wrong}
-use mathlib.Core.Path.{_∙_}
-use mathlib.Core.Path.{refl}
-use native.Mathlib.Omega.{arith}
-use borrow.Author.Needs.{needs}
 use Rattle.metadata.proofs.read_sql_mapping.Statement.{statement}
 use Rattle.metadata.proofs.read_sql_mapping.Tie as tie
-use Rattle.metadata.proofs.read_sql_mapping.Reads as reads
-use Rattle.metadata.proofs.read_sql_mapping.Lts as lts
-use Rattle.leaf.proofs.Cursor.read_str.Reads as read-str-reads
-use Rattle.leaf.proofs.Cursor.read_u8.Reads as read-u8-reads
-use Rattle.leaf.proofs.Cursor.refused.Reads as refused-reads
-use Rattle.metadata.proofs.read_numeric.Reads as read-numeric-reads
-use Rattle.metadata.proofs.read_sql_array_mapping.Reads as read-sql-array-mapping-reads
 
--- src/lib.rt:33:9
 read-u8-requires : tie.Need-read-u8-requires
 read-u8-requires c κs = tt
 
--- src/lib.rt:36:27
 read-str-requires : tie.Need-read-str-requires
 read-str-requires c κs = tt
 
--- src/lib.rt:37:30
 read-sql-array-mapping-requires : tie.Need-read-sql-array-mapping-requires
 read-sql-array-mapping-requires c κs = tt
 
--- src/lib.rt:38:32
 read-numeric-requires : tie.Need-read-numeric-requires
 read-numeric-requires c κs = tt
 
--- src/lib.rt:41:14
 refused-requires : tie.Need-refused-requires
 refused-requires c κs = tt
 
--- src/lib.rt:29:1
 same-length : tie.Need-same-length
 same-length c = c .before .before .read-str .kept .1 .1 .0 ∙ c .before .before .before .before .before .before .before .read-u8 .kept .1 .1 .0
 
--- src/lib.rt:29:1
 returns : tie.Need-returns
 unfolding SqlMapping
-returns c = tags-in (sqlMappings) 1 _ _ _ _ (c .before .before .before .before .before .before .before .read-u8 .ensures) (c .before .before .before .before .match .keys1) refl (c .before .before .read-str .ensures)
+returns c = tags-in sqlMappings 1 _ _ _ _ (c .before .before .before .before .before .before .before .read-u8 .ensures) (c .before .before .before .before .match .keys1) refl (c .before .before .read-str .ensures)
 
--- src/lib.rt:29:1
 same-length-2 : tie.Need-same-length-2
 same-length-2 c = c .before .before .read-sql-array-mapping .kept .1 .1 .0 ∙ c .before .before .before .before .before .before .before .read-u8 .kept .1 .1 .0
 
--- src/lib.rt:29:1
 returns-2 : tie.Need-returns-2
 unfolding SqlMapping
-returns-2 c = tags-in (sqlMappings) 2 _ _ _ _ (c .before .before .before .before .before .before .before .read-u8 .ensures) (c .before .before .before .before .match .keys2) refl (c .before .before .read-sql-array-mapping .ensures)
+returns-2 c = tags-in sqlMappings 2 _ _ _ _ (c .before .before .before .before .before .before .before .read-u8 .ensures) (c .before .before .before .before .match .keys2) refl (c .before .before .read-sql-array-mapping .ensures)
 
--- src/lib.rt:29:1
 same-length-3 : tie.Need-same-length-3
 same-length-3 c = c .before .before .read-numeric .kept .1 .1 .0 ∙ c .before .before .before .before .before .before .before .read-u8 .kept .1 .1 .0
 
--- src/lib.rt:29:1
 returns-3 : tie.Need-returns-3
 unfolding SqlMapping
-returns-3 c = tags-in (sqlMappings) 3 _ _ _ _ (c .before .before .before .before .before .before .before .read-u8 .ensures) (c .before .before .before .before .match .keys3) refl (c .before .before .read-numeric .ensures)
+returns-3 c = tags-in sqlMappings 3 _ _ _ _ (c .before .before .before .before .before .before .before .read-u8 .ensures) (c .before .before .before .before .match .keys3) refl (c .before .before .read-numeric .ensures)
 
--- src/lib.rt:29:1
 same-length-4 : tie.Need-same-length-4
 same-length-4 c = c .before .before .before .read-u8 .kept .1 .1 .0
 
--- src/lib.rt:29:1
 returns-4 : tie.Need-returns-4
 unfolding SqlMapping
-returns-4 c = tags-in (sqlMappings) 4 _ _ _ _ (c .before .before .before .read-u8 .ensures) (c .match .keys4) refl (run-nothing _ _)
+returns-4 c = tags-in sqlMappings 4 _ _ _ _ (c .before .before .before .read-u8 .ensures) (c .match .keys4) refl (run-nothing _ _)
 
--- src/lib.rt:29:1
 same-length-5 : tie.Need-same-length-5
 same-length-5 c = c .before .before .before .read-u8 .kept .1 .1 .0
 
--- src/lib.rt:29:1
 returns-5 : tie.Need-returns-5
 unfolding SqlMapping
-returns-5 c = tags-in (sqlMappings) 5 _ _ _ _ (c .before .before .before .read-u8 .ensures) (c .match .keys5) refl (run-nothing _ _)
+returns-5 c = tags-in sqlMappings 5 _ _ _ _ (c .before .before .before .read-u8 .ensures) (c .match .keys5) refl (run-nothing _ _)
 
--- src/lib.rt:29:1
 same-length-6 : tie.Need-same-length-6
 same-length-6 c = c .before .before .before .before .read-u8 .kept .1 .1 .0
 
--- src/lib.rt:29:1
 returns-6 : tie.Need-returns-6
 unfolding SqlMapping
 returns-6 c = tags-wrong sqlMappings _ _ _ _ (c .before .before .before .before .read-u8 .ensures) (omega arith) (rw (c .refused .ensures))

@@ -1,20 +1,17 @@
+-- i items are read; the others are still to come.
+use Prim.Native.Nat.{_-_}
+use native.Mathlib.Nat.{sub-zero}
+use native.Mathlib.Omega.{arith}
+use mathlib.Core.Path.{_≡_, refl}
+use lib.ListN.{length}
+use borrow.Author.Needs.{needs}
 use Rattle.leaf.proofs.Forms.{list-in, loop-on, loop-end, loop-refused}
 use Rattle.leaf.specs.Run.{run}
 use Rattle.leaf.specs.State.{state}
 use Rattle.layout.specs.Entities.{SqlMappingList, SqlMapping}
 use Rattle.layout.specs.Forms.{times}
-use lib.ListN.{length}
-use borrow.Author.Needs.{needs}
-use native.Mathlib.Nat.{sub-zero}
-use native.Mathlib.Omega.{arith}
-use mathlib.Core.Path.{_≡_, refl}
-use Prim.Native.Nat.{_-_}
 use Rattle.metadata.proofs.read_sql_mapping_list.Statement.{statement}
 use Rattle.metadata.proofs.read_sql_mapping_list.Tie as tie
-use Rattle.metadata.proofs.read_sql_mapping_list.Reads as reads
-use Rattle.metadata.proofs.read_sql_mapping_list.Lts as lts
-use Rattle.leaf.proofs.Cursor.read_count.Reads as read-count-reads
-use Rattle.metadata.proofs.read_sql_mapping.Reads as read-sql-mapping-reads
 
 abbrev Inv-loop : tie.InvT-loop
 Inv-loop s t₀ c₀ count i₀ t c i = (length t ≡ length t₀) × (run (times count SqlMapping) s (state c₀ t₀) ≡ run (times (count - i) SqlMapping) s (state c t))
@@ -22,44 +19,34 @@ Inv-loop s t₀ c₀ count i₀ t c i = (length t ≡ length t₀) × (run (time
 abbrev μ-loop : tie.MeasureT-loop
 μ-loop s t₀ c₀ count i₀ t c i = count - i
 
--- src/lib.rt:86:9
 read-count-requires : tie.Need-read-count-requires Inv-loop μ-loop
 read-count-requires c κs = tt
 
--- src/lib.rt:89:5
 loop-holds : tie.Need-loop-holds Inv-loop μ-loop
 loop-holds c = (refl, simp sub-zero)
 
--- src/lib.rt:91:13
 same-length : tie.Need-same-length Inv-loop μ-loop
 same-length c = search (needs, c .before .before .before .loop .inv .0)
 
--- src/lib.rt:91:13
 returns : tie.Need-returns Inv-loop μ-loop
 unfolding SqlMappingList
 returns c = list-in _ _ _ _ _ (c .before .before .before .before .before .before .read-count .ensures) (loop-refused _ _ _ _ (c .before .before .before .loop .inv .1) (c .if1 .taken))
 
--- src/lib.rt:93:9
 read-sql-mapping-requires : tie.Need-read-sql-mapping-requires Inv-loop μ-loop
 read-sql-mapping-requires c κs = tt
 
--- src/lib.rt:94:9
 add-i : tie.Need-add-i Inv-loop μ-loop
 add-i c = omega arith
 
--- src/lib.rt:89:5
 loop-less : tie.Need-loop-less Inv-loop μ-loop
 loop-less c = omega arith
 
--- src/lib.rt:89:5
 loop-again : tie.Need-loop-again Inv-loop μ-loop
 loop-again c = (search (needs, c .before .before .before .before .before .before .before .loop .inv .0), loop-on _ _ SqlMapping _ _ _ _ (c .before .before .before .before .before .before .before .loop .inv .1) (c .before .before .before .before .before .before .loop-test .taken) (c .before .before .read-sql-mapping .ensures))
 
--- src/lib.rt:83:1
 same-length-2 : tie.Need-same-length-2 Inv-loop μ-loop
 same-length-2 c = search needs
 
--- src/lib.rt:83:1
 returns-2 : tie.Need-returns-2 Inv-loop μ-loop
 unfolding SqlMappingList
 returns-2 c = list-in _ _ _ _ _ (c .before .before .before .before .read-count .ensures) (loop-end _ _ SqlMapping _ _ _ (c .before .loop .inv .1) (c .loop-test .left))

@@ -1,41 +1,29 @@
+-- Each known tag, and the rest.
+use native.Mathlib.Omega.{arith}
+use mathlib.Core.List.{[]}
+use mathlib.Core.Logic.{⊎-elim}
 use Rattle.layout.specs.Entities.{TypeOrigin}
 use Rattle.leaf.proofs.Forms.{tags-bare, tags-wrong}
-use mathlib.Core.Path.{_∙_}
-use mathlib.Core.Path.{refl}
-use native.Mathlib.Omega.{arith}
 use Rattle.layout.specs.Forms.{bare}
-use mathlib.Core.List.{[], _∷_, _++_}
-use mathlib.Core.Logic.{⊎-elim}
-use borrow.Author.Needs.{needs}
 use Rattle.metadata.proofs.read_type_origin.Statement.{statement}
 use Rattle.metadata.proofs.read_type_origin.Tie as tie
-use Rattle.metadata.proofs.read_type_origin.Reads as reads
-use Rattle.metadata.proofs.read_type_origin.Lts as lts
-use Rattle.leaf.proofs.Cursor.read_u8.Reads as read-u8-reads
-use Rattle.leaf.proofs.Cursor.refused.Reads as refused-reads
 
--- src/lib.rt:163:9
 read-u8-requires : tie.Need-read-u8-requires
 read-u8-requires c κs = tt
 
--- src/lib.rt:167:14
 refused-requires : tie.Need-refused-requires
 refused-requires c κs = tt
 
--- src/lib.rt:159:1
 same-length : tie.Need-same-length
 same-length c = c .before .before .before .before .read-u8 .kept .1 .1 .0
 
--- src/lib.rt:159:1
 returns : tie.Need-returns
 unfolding TypeOrigin
 returns c = tags-bare 1 2 [] _ _ _ (c .before .before .before .before .read-u8 .ensures) (omega arith) (omega arith)
 
--- src/lib.rt:159:1
 same-length-2 : tie.Need-same-length-2
 same-length-2 c = c .before .before .before .before .read-u8 .kept .1 .1 .0
 
--- src/lib.rt:159:1
 returns-2 : tie.Need-returns-2
 unfolding TypeOrigin
 returns-2 c = tags-wrong (bare 1 2) _ _ _ _ (c .before .before .before .before .read-u8 .ensures) (⊎-elim (λ w. omega arith) (λ w. omega arith) (c .before .if1 .came)) (rw (c .refused .ensures))

@@ -1,20 +1,17 @@
+-- i items are read; the others are still to come.
+use Prim.Native.Nat.{_-_}
+use native.Mathlib.Nat.{sub-zero}
+use native.Mathlib.Omega.{arith}
+use mathlib.Core.Path.{_≡_, refl}
+use lib.ListN.{length}
+use borrow.Author.Needs.{needs}
 use Rattle.leaf.proofs.Forms.{list-in, loop-on, loop-end, loop-refused}
 use Rattle.leaf.specs.Run.{run}
 use Rattle.leaf.specs.State.{state}
 use Rattle.layout.specs.Entities.{AggregateTypeList, AggregateType}
 use Rattle.layout.specs.Forms.{times}
-use lib.ListN.{length}
-use borrow.Author.Needs.{needs}
-use native.Mathlib.Nat.{sub-zero}
-use native.Mathlib.Omega.{arith}
-use mathlib.Core.Path.{_≡_, refl}
-use Prim.Native.Nat.{_-_}
 use Rattle.used.proofs.read_aggregate_type_list.Statement.{statement}
 use Rattle.used.proofs.read_aggregate_type_list.Tie as tie
-use Rattle.used.proofs.read_aggregate_type_list.Reads as reads
-use Rattle.used.proofs.read_aggregate_type_list.Lts as lts
-use Rattle.leaf.proofs.Cursor.read_count.Reads as read-count-reads
-use Rattle.used.proofs.read_aggregate_type.Reads as read-aggregate-type-reads
 
 abbrev Inv-loop : tie.InvT-loop
 Inv-loop s t₀ c₀ count i₀ t c i = (length t ≡ length t₀) × (run (times count AggregateType) s (state c₀ t₀) ≡ run (times (count - i) AggregateType) s (state c t))
@@ -22,44 +19,34 @@ Inv-loop s t₀ c₀ count i₀ t c i = (length t ≡ length t₀) × (run (time
 abbrev μ-loop : tie.MeasureT-loop
 μ-loop s t₀ c₀ count i₀ t c i = count - i
 
--- src/lib.rt:108:9
 read-count-requires : tie.Need-read-count-requires Inv-loop μ-loop
 read-count-requires c κs = tt
 
--- src/lib.rt:111:5
 loop-holds : tie.Need-loop-holds Inv-loop μ-loop
 loop-holds c = (refl, simp sub-zero)
 
--- src/lib.rt:113:13
 same-length : tie.Need-same-length Inv-loop μ-loop
 same-length c = search (needs, c .before .before .before .loop .inv .0)
 
--- src/lib.rt:113:13
 returns : tie.Need-returns Inv-loop μ-loop
 unfolding AggregateTypeList
 returns c = list-in _ _ _ _ _ (c .before .before .before .before .before .before .read-count .ensures) (loop-refused _ _ _ _ (c .before .before .before .loop .inv .1) (c .if1 .taken))
 
--- src/lib.rt:115:9
 read-aggregate-type-requires : tie.Need-read-aggregate-type-requires Inv-loop μ-loop
 read-aggregate-type-requires c κs = tt
 
--- src/lib.rt:116:9
 add-i : tie.Need-add-i Inv-loop μ-loop
 add-i c = omega arith
 
--- src/lib.rt:111:5
 loop-less : tie.Need-loop-less Inv-loop μ-loop
 loop-less c = omega arith
 
--- src/lib.rt:111:5
 loop-again : tie.Need-loop-again Inv-loop μ-loop
 loop-again c = (search (needs, c .before .before .before .before .before .before .before .loop .inv .0), loop-on _ _ AggregateType _ _ _ _ (c .before .before .before .before .before .before .before .loop .inv .1) (c .before .before .before .before .before .before .loop-test .taken) (c .before .before .read-aggregate-type .ensures))
 
--- src/lib.rt:105:1
 same-length-2 : tie.Need-same-length-2 Inv-loop μ-loop
 same-length-2 c = search needs
 
--- src/lib.rt:105:1
 returns-2 : tie.Need-returns-2 Inv-loop μ-loop
 unfolding AggregateTypeList
 returns-2 c = list-in _ _ _ _ _ (c .before .before .before .before .read-count .ensures) (loop-end _ _ AggregateType _ _ _ (c .before .loop .inv .1) (c .loop-test .left))

@@ -1,36 +1,26 @@
+-- The thing follows, or its flag is 0.
+use mathlib.Core.Path.{_∙_}
 use Rattle.layout.specs.Entities.{OptionCast}
 use Rattle.leaf.proofs.Forms.{may-in, may-out}
-use mathlib.Core.Path.{_∙_}
-use borrow.Author.Needs.{needs}
 use Rattle.used.proofs.read_option_cast.Statement.{statement}
 use Rattle.used.proofs.read_option_cast.Tie as tie
-use Rattle.used.proofs.read_option_cast.Reads as reads
-use Rattle.used.proofs.read_option_cast.Lts as lts
-use Rattle.leaf.proofs.Cursor.read_bool.Reads as read-bool-reads
-use Rattle.used.proofs.read_cast.Reads as read-cast-reads
 
--- src/lib.rt:219:9
 read-bool-requires : tie.Need-read-bool-requires
 read-bool-requires c κs = tt
 
--- src/lib.rt:221:9
 read-cast-requires : tie.Need-read-cast-requires
 read-cast-requires c κs = tt
 
--- src/lib.rt:221:9
 same-length : tie.Need-same-length
 same-length c = c .before .before .read-cast .kept .1 .1 .0 ∙ c .before .before .before .before .before .before .before .before .read-bool .kept .1 .1 .0
 
--- src/lib.rt:221:9
 returns : tie.Need-returns
 unfolding OptionCast
 returns c = may-in _ _ _ _ _ (c .before .before .before .before .before .before .before .before .read-bool .ensures) (c .before .before .before .before .if1 .taken) (c .before .before .read-cast .ensures)
 
--- src/lib.rt:216:1
 same-length-2 : tie.Need-same-length-2
 same-length-2 c = c .before .before .before .before .read-bool .kept .1 .1 .0
 
--- src/lib.rt:216:1
 returns-2 : tie.Need-returns-2
 unfolding OptionCast
 returns-2 c = may-out _ _ _ _ (c .before .before .before .before .read-bool .ensures) (c .if1 .left)

@@ -1,36 +1,26 @@
+-- The thing follows, or its flag is 0.
+use mathlib.Core.Path.{_∙_}
 use Rattle.layout.specs.Entities.{OptionOperator}
 use Rattle.leaf.proofs.Forms.{may-in, may-out}
-use mathlib.Core.Path.{_∙_}
-use borrow.Author.Needs.{needs}
 use Rattle.used.proofs.read_option_operator.Statement.{statement}
 use Rattle.used.proofs.read_option_operator.Tie as tie
-use Rattle.used.proofs.read_option_operator.Reads as reads
-use Rattle.used.proofs.read_option_operator.Lts as lts
-use Rattle.leaf.proofs.Cursor.read_bool.Reads as read-bool-reads
-use Rattle.used.proofs.read_operator.Reads as read-operator-reads
 
--- src/lib.rt:197:9
 read-bool-requires : tie.Need-read-bool-requires
 read-bool-requires c κs = tt
 
--- src/lib.rt:199:9
 read-operator-requires : tie.Need-read-operator-requires
 read-operator-requires c κs = tt
 
--- src/lib.rt:199:9
 same-length : tie.Need-same-length
 same-length c = c .before .before .read-operator .kept .1 .1 .0 ∙ c .before .before .before .before .before .before .before .before .read-bool .kept .1 .1 .0
 
--- src/lib.rt:199:9
 returns : tie.Need-returns
 unfolding OptionOperator
 returns c = may-in _ _ _ _ _ (c .before .before .before .before .before .before .before .before .read-bool .ensures) (c .before .before .before .before .if1 .taken) (c .before .before .read-operator .ensures)
 
--- src/lib.rt:194:1
 same-length-2 : tie.Need-same-length-2
 same-length-2 c = c .before .before .before .before .read-bool .kept .1 .1 .0
 
--- src/lib.rt:194:1
 returns-2 : tie.Need-returns-2
 unfolding OptionOperator
 returns-2 c = may-out _ _ _ _ (c .before .before .before .before .read-bool .ensures) (c .if1 .left)

@@ -1,88 +1,64 @@
+-- Each known tag, and the rest.
+use native.Mathlib.Omega.{arith}
+use mathlib.Core.Path.{_∙_, refl}
 use Rattle.layout.specs.Entities.{PgExternReturn, pgExternReturns}
 use Rattle.leaf.proofs.Forms.{run-nothing, tags-in, tags-wrong}
-use mathlib.Core.Path.{_∙_}
-use mathlib.Core.Path.{refl}
-use native.Mathlib.Omega.{arith}
-use borrow.Author.Needs.{needs}
 use Rattle.used.proofs.read_pg_extern_return.Statement.{statement}
 use Rattle.used.proofs.read_pg_extern_return.Tie as tie
-use Rattle.used.proofs.read_pg_extern_return.Reads as reads
-use Rattle.used.proofs.read_pg_extern_return.Lts as lts
-use Rattle.leaf.proofs.Cursor.read_u8.Reads as read-u8-reads
-use Rattle.leaf.proofs.Cursor.refused.Reads as refused-reads
-use Rattle.used.proofs.read_aggregate_type_list.Reads as read-aggregate-type-list-reads
-use Rattle.used.proofs.read_used_type.Reads as read-used-type-reads
 
--- src/lib.rt:86:9
 read-u8-requires : tie.Need-read-u8-requires
 read-u8-requires c κs = tt
 
--- src/lib.rt:90:36
 read-used-type-requires : tie.Need-read-used-type-requires
 read-used-type-requires c κs = tt
 
--- src/lib.rt:91:38
 read-used-type-requires-2 : tie.Need-read-used-type-requires-2
 read-used-type-requires-2 c κs = tt
 
--- src/lib.rt:92:40
 read-aggregate-type-list-requires : tie.Need-read-aggregate-type-list-requires
 read-aggregate-type-list-requires c κs = tt
 
--- src/lib.rt:94:14
 refused-requires : tie.Need-refused-requires
 refused-requires c κs = tt
 
--- src/lib.rt:82:1
 same-length : tie.Need-same-length
 same-length c = c .before .before .before .read-u8 .kept .1 .1 .0
 
--- src/lib.rt:82:1
 returns : tie.Need-returns
 unfolding PgExternReturn
-returns c = tags-in (pgExternReturns) 1 _ _ _ _ (c .before .before .before .read-u8 .ensures) (c .match .keys1) refl (run-nothing _ _)
+returns c = tags-in pgExternReturns 1 _ _ _ _ (c .before .before .before .read-u8 .ensures) (c .match .keys1) refl (run-nothing _ _)
 
--- src/lib.rt:82:1
 same-length-2 : tie.Need-same-length-2
 same-length-2 c = c .before .before .read-used-type .kept .1 .1 .0 ∙ c .before .before .before .before .before .before .before .read-u8 .kept .1 .1 .0
 
--- src/lib.rt:82:1
 returns-2 : tie.Need-returns-2
 unfolding PgExternReturn
-returns-2 c = tags-in (pgExternReturns) 2 _ _ _ _ (c .before .before .before .before .before .before .before .read-u8 .ensures) (c .before .before .before .before .match .keys2) refl (c .before .before .read-used-type .ensures)
+returns-2 c = tags-in pgExternReturns 2 _ _ _ _ (c .before .before .before .before .before .before .before .read-u8 .ensures) (c .before .before .before .before .match .keys2) refl (c .before .before .read-used-type .ensures)
 
--- src/lib.rt:82:1
 same-length-3 : tie.Need-same-length-3
 same-length-3 c = c .before .before .read-used-type2 .kept .1 .1 .0 ∙ c .before .before .before .before .before .before .before .read-u8 .kept .1 .1 .0
 
--- src/lib.rt:82:1
 returns-3 : tie.Need-returns-3
 unfolding PgExternReturn
-returns-3 c = tags-in (pgExternReturns) 3 _ _ _ _ (c .before .before .before .before .before .before .before .read-u8 .ensures) (c .before .before .before .before .match .keys3) refl (c .before .before .read-used-type2 .ensures)
+returns-3 c = tags-in pgExternReturns 3 _ _ _ _ (c .before .before .before .before .before .before .before .read-u8 .ensures) (c .before .before .before .before .match .keys3) refl (c .before .before .read-used-type2 .ensures)
 
--- src/lib.rt:82:1
 same-length-4 : tie.Need-same-length-4
 same-length-4 c = c .before .before .read-aggregate-type-list .kept .1 .1 .0 ∙ c .before .before .before .before .before .before .before .read-u8 .kept .1 .1 .0
 
--- src/lib.rt:82:1
 returns-4 : tie.Need-returns-4
 unfolding PgExternReturn
-returns-4 c = tags-in (pgExternReturns) 4 _ _ _ _ (c .before .before .before .before .before .before .before .read-u8 .ensures) (c .before .before .before .before .match .keys4) refl (c .before .before .read-aggregate-type-list .ensures)
+returns-4 c = tags-in pgExternReturns 4 _ _ _ _ (c .before .before .before .before .before .before .before .read-u8 .ensures) (c .before .before .before .before .match .keys4) refl (c .before .before .read-aggregate-type-list .ensures)
 
--- src/lib.rt:82:1
 same-length-5 : tie.Need-same-length-5
 same-length-5 c = c .before .before .before .read-u8 .kept .1 .1 .0
 
--- src/lib.rt:82:1
 returns-5 : tie.Need-returns-5
 unfolding PgExternReturn
-returns-5 c = tags-in (pgExternReturns) 5 _ _ _ _ (c .before .before .before .read-u8 .ensures) (c .match .keys5) refl (run-nothing _ _)
+returns-5 c = tags-in pgExternReturns 5 _ _ _ _ (c .before .before .before .read-u8 .ensures) (c .match .keys5) refl (run-nothing _ _)
 
--- src/lib.rt:82:1
 same-length-6 : tie.Need-same-length-6
 same-length-6 c = c .before .before .before .before .read-u8 .kept .1 .1 .0
 
--- src/lib.rt:82:1
 returns-6 : tie.Need-returns-6
 unfolding PgExternReturn
 returns-6 c = tags-wrong pgExternReturns _ _ _ _ (c .before .before .before .before .read-u8 .ensures) (omega arith) (rw (c .refused .ensures))

@@ -1,56 +1,40 @@
+-- Each known tag, and the rest.
+use native.Mathlib.Omega.{arith}
+use mathlib.Core.Path.{_∙_, refl}
 use Rattle.layout.specs.Entities.{PositioningRef, positioningRefs}
 use Rattle.leaf.proofs.Forms.{tags-in, tags-wrong}
-use mathlib.Core.Path.{_∙_}
-use mathlib.Core.Path.{refl}
-use native.Mathlib.Omega.{arith}
-use borrow.Author.Needs.{needs}
 use Rattle.used.proofs.read_positioning_ref.Statement.{statement}
 use Rattle.used.proofs.read_positioning_ref.Tie as tie
-use Rattle.used.proofs.read_positioning_ref.Reads as reads
-use Rattle.used.proofs.read_positioning_ref.Lts as lts
-use Rattle.leaf.proofs.Cursor.read_str.Reads as read-str-reads
-use Rattle.leaf.proofs.Cursor.read_u8.Reads as read-u8-reads
-use Rattle.leaf.proofs.Cursor.refused.Reads as refused-reads
 
--- src/lib.rt:14:9
 read-u8-requires : tie.Need-read-u8-requires
 read-u8-requires c κs = tt
 
--- src/lib.rt:17:46
 read-str-requires : tie.Need-read-str-requires
 read-str-requires c κs = tt
 
--- src/lib.rt:18:41
 read-str-requires-2 : tie.Need-read-str-requires-2
 read-str-requires-2 c κs = tt
 
--- src/lib.rt:19:14
 refused-requires : tie.Need-refused-requires
 refused-requires c κs = tt
 
--- src/lib.rt:10:1
 same-length : tie.Need-same-length
 same-length c = c .before .before .read-str .kept .1 .1 .0 ∙ c .before .before .before .before .before .before .before .read-u8 .kept .1 .1 .0
 
--- src/lib.rt:10:1
 returns : tie.Need-returns
 unfolding PositioningRef
-returns c = tags-in (positioningRefs) 1 _ _ _ _ (c .before .before .before .before .before .before .before .read-u8 .ensures) (c .before .before .before .before .match .keys1) refl (c .before .before .read-str .ensures)
+returns c = tags-in positioningRefs 1 _ _ _ _ (c .before .before .before .before .before .before .before .read-u8 .ensures) (c .before .before .before .before .match .keys1) refl (c .before .before .read-str .ensures)
 
--- src/lib.rt:10:1
 same-length-2 : tie.Need-same-length-2
 same-length-2 c = c .before .before .read-str2 .kept .1 .1 .0 ∙ c .before .before .before .before .before .before .before .read-u8 .kept .1 .1 .0
 
--- src/lib.rt:10:1
 returns-2 : tie.Need-returns-2
 unfolding PositioningRef
-returns-2 c = tags-in (positioningRefs) 2 _ _ _ _ (c .before .before .before .before .before .before .before .read-u8 .ensures) (c .before .before .before .before .match .keys2) refl (c .before .before .read-str2 .ensures)
+returns-2 c = tags-in positioningRefs 2 _ _ _ _ (c .before .before .before .before .before .before .before .read-u8 .ensures) (c .before .before .before .before .match .keys2) refl (c .before .before .read-str2 .ensures)
 
--- src/lib.rt:10:1
 same-length-3 : tie.Need-same-length-3
 same-length-3 c = c .before .before .before .before .read-u8 .kept .1 .1 .0
 
--- src/lib.rt:10:1
 returns-3 : tie.Need-returns-3
 unfolding PositioningRef
 returns-3 c = tags-wrong positioningRefs _ _ _ _ (c .before .before .before .before .read-u8 .ensures) (omega arith) (rw (c .refused .ensures))

@@ -1,36 +1,26 @@
+-- The thing follows, or its flag is 0.
+use mathlib.Core.Path.{_∙_}
 use Rattle.layout.specs.Entities.{SearchPath}
 use Rattle.leaf.proofs.Forms.{may-in, may-out}
-use mathlib.Core.Path.{_∙_}
-use borrow.Author.Needs.{needs}
 use Rattle.used.proofs.read_search_path.Statement.{statement}
 use Rattle.used.proofs.read_search_path.Tie as tie
-use Rattle.used.proofs.read_search_path.Reads as reads
-use Rattle.used.proofs.read_search_path.Lts as lts
-use Rattle.leaf.proofs.Cursor.read_bool.Reads as read-bool-reads
-use Rattle.used.proofs.read_str_list.Reads as read-str-list-reads
 
--- src/lib.rt:159:9
 read-bool-requires : tie.Need-read-bool-requires
 read-bool-requires c κs = tt
 
--- src/lib.rt:161:9
 read-str-list-requires : tie.Need-read-str-list-requires
 read-str-list-requires c κs = tt
 
--- src/lib.rt:161:9
 same-length : tie.Need-same-length
 same-length c = c .before .before .read-str-list .kept .1 .1 .0 ∙ c .before .before .before .before .before .before .before .before .read-bool .kept .1 .1 .0
 
--- src/lib.rt:161:9
 returns : tie.Need-returns
 unfolding SearchPath
 returns c = may-in _ _ _ _ _ (c .before .before .before .before .before .before .before .before .read-bool .ensures) (c .before .before .before .before .if1 .taken) (c .before .before .read-str-list .ensures)
 
--- src/lib.rt:156:1
 same-length-2 : tie.Need-same-length-2
 same-length-2 c = c .before .before .before .before .read-bool .kept .1 .1 .0
 
--- src/lib.rt:156:1
 returns-2 : tie.Need-returns-2
 unfolding SearchPath
 returns-2 c = may-out _ _ _ _ (c .before .before .before .before .read-bool .ensures) (c .if1 .left)

@@ -1,49 +1,34 @@
+-- The parts, one after the other.
+use mathlib.Core.Path.{_∙_}
 use Rattle.layout.specs.Entities.{UsedType}
 use Rattle.leaf.specs.Run.{run}
-use mathlib.Core.Path.{_∙_}
-use borrow.Author.Needs.{needs}
 use Rattle.used.proofs.read_used_type.Statement.{statement}
 use Rattle.used.proofs.read_used_type.Tie as tie
-use Rattle.used.proofs.read_used_type.Reads as reads
-use Rattle.used.proofs.read_used_type.Lts as lts
-use Rattle.leaf.proofs.Cursor.read_bool.Reads as read-bool-reads
-use Rattle.leaf.proofs.Cursor.read_option_str.Reads as read-option-str-reads
-use Rattle.leaf.proofs.Cursor.read_str.Reads as read-str-reads
-use Rattle.metadata.proofs.read_function_metadata_type.Reads as read-function-metadata-type-reads
 
--- src/lib.rt:49:9
 read-str-requires : tie.Need-read-str-requires
 read-str-requires c κs = tt
 
--- src/lib.rt:50:9
 read-str-requires-2 : tie.Need-read-str-requires-2
 read-str-requires-2 c κs = tt
 
--- src/lib.rt:51:9
 read-option-str-requires : tie.Need-read-option-str-requires
 read-option-str-requires c κs = tt
 
--- src/lib.rt:52:9
 read-bool-requires : tie.Need-read-bool-requires
 read-bool-requires c κs = tt
 
--- src/lib.rt:53:9
 read-option-str-requires-2 : tie.Need-read-option-str-requires-2
 read-option-str-requires-2 c κs = tt
 
--- src/lib.rt:54:9
 read-bool-requires-2 : tie.Need-read-bool-requires-2
 read-bool-requires-2 c κs = tt
 
--- src/lib.rt:55:5
 read-function-metadata-type-requires : tie.Need-read-function-metadata-type-requires
 read-function-metadata-type-requires c κs = tt
 
--- src/lib.rt:46:1
 same-length : tie.Need-same-length
 same-length c = c .before .before .read-function-metadata-type .kept .1 .1 .0 ∙ c .before .before .before .before .before .before .read-bool2 .kept .1 .1 .0 ∙ c .before .before .before .before .before .before .before .before .before .before .read-option-str2 .kept .1 .1 .0 ∙ c .before .before .before .before .before .before .before .before .before .before .before .before .before .before .read-bool .kept .1 .1 .0 ∙ c .before .before .before .before .before .before .before .before .before .before .before .before .before .before .before .before .before .before .read-option-str .kept .1 .1 .0 ∙ c .before .before .before .before .before .before .before .before .before .before .before .before .before .before .before .before .before .before .before .before .before .before .read-str2 .kept .1 .1 .0 ∙ c .before .before .before .before .before .before .before .before .before .before .before .before .before .before .before .before .before .before .before .before .before .before .before .before .before .before .read-str .kept .1 .1 .0
 
--- src/lib.rt:46:1
 returns : tie.Need-returns
 unfolding run UsedType
 returns c = cc (c .before .before .before .before .before .before .before .before .before .before .before .before .before .before .before .before .before .before .before .before .before .before .before .before .before .before .read-str .ensures, c .before .before .before .before .before .before .before .before .before .before .before .before .before .before .before .before .before .before .before .before .before .before .read-str2 .ensures, c .before .before .before .before .before .before .before .before .before .before .before .before .before .before .before .before .before .before .read-option-str .ensures, c .before .before .before .before .before .before .before .before .before .before .before .before .before .before .read-bool .ensures, c .before .before .before .before .before .before .before .before .before .before .read-option-str2 .ensures, c .before .before .before .before .before .before .read-bool2 .ensures, c .before .before .read-function-metadata-type .ensures)

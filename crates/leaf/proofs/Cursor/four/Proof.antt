@@ -1,71 +1,53 @@
-use Rattle.leaf.proofs.Leaves.{refused-stays, long-stops, goes-on}
-use denote.Ref.{now}
-use lib.ListN.{length}
+-- Refused, too many bytes, too few left, or the number.
 use Prim.Native.Nat.{_+_}
-use borrow.Author.Tests.{lt-leb, le-leb}
 use native.Mathlib.Omega.{arith}
+use lib.ListN.{length}
 use borrow.Author.Needs.{needs}
+use borrow.Author.Tests.{lt-leb, le-leb}
+use denote.Ref.{now}
+use Rattle.leaf.proofs.Leaves.{refused-stays, long-stops, goes-on}
 use Rattle.leaf.proofs.Cursor.four.Statement.{statement}
 use Rattle.leaf.proofs.Cursor.four.Tie as tie
-use Rattle.leaf.proofs.Cursor.four.Reads as reads
-use Rattle.leaf.proofs.Cursor.four.Lts as lts
-use Rattle.leaf.proofs.Cursor.stop.Reads as stop-reads
-use Rattle.leaf.proofs.Cursor.store.Reads as store-reads
-use Rattle.leaf.proofs.number_at.Reads as number-at-reads
 
--- src/lib.rt:144:13
 returns : tie.Need-returns
 returns c = refused-stays _ _ _ _ (c .if1 .taken)
 
--- src/lib.rt:147:13
 stop-requires : tie.Need-stop-requires
 stop-requires c κs = search needs
 
--- src/lib.rt:147:13
 returns-2 : tie.Need-returns-2
 returns-2 c = long-stops _ _ _ _ (c .before .before .if1 .left) (c .before .if2 .taken) _ (c .stop .ensures)
 
--- src/lib.rt:151:13
 stop-requires-2 : tie.Need-stop-requires-2
 stop-requires-2 c κs = search needs
 
--- src/lib.rt:151:13
 returns-3 : tie.Need-returns-3
 returns-3 c = goes-on _ _ _ _ (c .before .before .before .if1 .left) (c .before .before .if2 .left) _ (simp (lt-leb (c .before .before .before .before .before .before .before .args .self .at + 4) (length (now (c .before .before .before .before .before .before .before .args .s))) (omega arith), c .stop2 .ensures))
 
--- src/lib.rt:153:12
 sub-if4 : tie.Need-sub-if4
 sub-if4 c = search needs
 
--- src/lib.rt:154:13
 stop-requires-3 : tie.Need-stop-requires-3
 stop-requires-3 c κs = search needs
 
--- src/lib.rt:154:13
 returns-4 : tie.Need-returns-4
 returns-4 c = goes-on _ _ _ _ (c .before .before .before .before .if1 .left) (c .before .before .before .if2 .left) _ (simp (lt-leb (c .before .before .before .before .before .before .before .before .args .self .at + 4) (length (now (c .before .before .before .before .before .before .before .before .args .s))) (omega arith), c .stop3 .ensures))
 
--- src/lib.rt:156:29
 cast-store : tie.Need-cast-store
 cast-store c = search needs
 
--- src/lib.rt:156:40
 number-at-requires : tie.Need-number-at-requires
 number-at-requires c κs = search needs
 
--- src/lib.rt:156:58
 add-store : tie.Need-add-store
 add-store c = search needs
 
--- src/lib.rt:156:9
 store-requires : tie.Need-store-requires
 store-requires c κs = search needs
 
--- src/lib.rt:140:5
 same-length : tie.Need-same-length
 same-length c = search needs
 
--- src/lib.rt:140:5
 returns-5 : tie.Need-returns-5
 returns-5 c = goes-on _ _ _ _ (c .before .before .before .before .before .before .before .before .if1 .left) (c .before .before .before .before .before .before .before .if2 .left) _ (simp (le-leb (c .before .before .before .before .before .before .before .before .before .before .before .before .args .self .at + 4) (length (now (c .before .before .before .before .before .before .before .before .before .before .before .before .args .s))) (omega arith), ← c .before .before .before .number-at .ensures) (c .before .before .store .ensures))
 

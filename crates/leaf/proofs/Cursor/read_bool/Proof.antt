@@ -1,77 +1,59 @@
+-- Refused, too many bytes, no byte left, neither 0 nor 1, or the flag.
+use Prim.Native.Nat.{_+_}
+use native.Mathlib.Omega.{arith}
+use lib.ListN.{length}
+use borrow.Author.Needs.{needs}
+use borrow.Author.Tests.{lt-leb, le-leb, lt-ltb, le-ltb}
+use denote.Ref.{now}
 use Rattle.leaf.proofs.Leaves.{refused-stays, long-stops, goes-on}
 use Rattle.leaf.specs.State.{plainStep}
 use Rattle.leaf.specs.Run.{run}
-use denote.Ref.{now}
-use lib.ListN.{length}
-use Prim.Native.Nat.{_+_}
-use borrow.Author.Tests.{lt-leb, le-leb, lt-ltb, le-ltb}
-use native.Mathlib.Omega.{arith}
-use borrow.Author.Needs.{needs}
 use Rattle.leaf.proofs.Cursor.read_bool.Statement.{statement}
 use Rattle.leaf.proofs.Cursor.read_bool.Tie as tie
-use Rattle.leaf.proofs.Cursor.read_bool.Reads as reads
-use Rattle.leaf.proofs.Cursor.read_bool.Lts as lts
-use Rattle.leaf.proofs.Cursor.stop.Reads as stop-reads
-use Rattle.leaf.proofs.Cursor.store.Reads as store-reads
-use Rattle.leaf.proofs.wide.Reads as wide-reads
 
--- src/lib.rt:178:13
 returns : tie.Need-returns
 unfolding run plainStep
 returns c = refused-stays _ _ _ _ (c .if1 .taken)
 
--- src/lib.rt:181:13
 stop-requires : tie.Need-stop-requires
 stop-requires c κs = search needs
 
--- src/lib.rt:181:13
 returns-2 : tie.Need-returns-2
 unfolding run plainStep
 returns-2 c = long-stops _ _ _ _ (c .before .before .if1 .left) (c .before .if2 .taken) _ (c .stop .ensures)
 
--- src/lib.rt:185:13
 stop-requires-2 : tie.Need-stop-requires-2
 stop-requires-2 c κs = search needs
 
--- src/lib.rt:185:13
 returns-3 : tie.Need-returns-3
 unfolding run plainStep
 returns-3 c = goes-on _ _ _ _ (c .before .before .before .if1 .left) (c .before .before .if2 .left) _ (simp (lt-leb (c .before .before .before .before .before .before .before .args .self .at + 1) (length (now (c .before .before .before .before .before .before .before .args .s))) (omega arith), c .stop2 .ensures))
 
--- src/lib.rt:187:22
 shared-slice-read-wide : tie.Need-shared-slice-read-wide
 shared-slice-read-wide c = search needs
 
--- src/lib.rt:187:13
 wide-requires : tie.Need-wide-requires
 wide-requires c κs = search needs
 
--- src/lib.rt:189:13
 stop-requires-3 : tie.Need-stop-requires-3
 stop-requires-3 c κs = search needs
 
--- src/lib.rt:189:13
 returns-4 : tie.Need-returns-4
 unfolding run plainStep
 returns-4 c = goes-on _ _ _ _ (c .before .before .before .before .before .before .if1 .left) (c .before .before .before .before .before .if2 .left) _ (simp (le-leb (c .before .before .before .before .before .before .before .before .before .before .args .self .at + 1) (length (now (c .before .before .before .before .before .before .before .before .before .before .args .s))) (omega arith), le-ltb _ 2 (rw (c .before .before .wide .ensures .0) at (c .before .if4 .taken)), c .stop3 .ensures))
 
--- src/lib.rt:191:34
 cast-store : tie.Need-cast-store
 cast-store c = search needs
 
--- src/lib.rt:191:48
 add-store : tie.Need-add-store
 add-store c = search needs
 
--- src/lib.rt:191:9
 store-requires : tie.Need-store-requires
 store-requires c κs = search needs
 
--- src/lib.rt:174:5
 same-length : tie.Need-same-length
 same-length c = search needs
 
--- src/lib.rt:174:5
 returns-5 : tie.Need-returns-5
 unfolding run plainStep
 returns-5 c = goes-on _ _ _ _ (c .before .before .before .before .before .before .before .before .before .if1 .left) (c .before .before .before .before .before .before .before .before .if2 .left) _ (simp (le-leb (c .before .before .before .before .before .before .before .before .before .before .before .before .before .args .self .at + 1) (length (now (c .before .before .before .before .before .before .before .before .before .before .before .before .before .args .s))) (omega arith), ← c .before .before .before .before .before .wide .ensures .0, lt-ltb _ 2 (c .before .before .before .before .if4 .left)) (c .before .before .store .ensures))

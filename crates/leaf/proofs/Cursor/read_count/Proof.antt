@@ -1,23 +1,18 @@
+-- The number that was read is a leaf of its sort.
+use borrow.Author.Needs.{needs}
 use Rattle.leaf.proofs.Leaves.{land-plain}
 use Rattle.leaf.specs.State.{plainStep}
 use Rattle.leaf.specs.Run.{run}
 use Rattle.layout.specs.Layout.{Count}
-use borrow.Author.Needs.{needs}
 use Rattle.leaf.proofs.Cursor.read_count.Statement.{statement}
 use Rattle.leaf.proofs.Cursor.read_count.Tie as tie
-use Rattle.leaf.proofs.Cursor.read_count.Reads as reads
-use Rattle.leaf.proofs.Cursor.read_count.Lts as lts
-use Rattle.leaf.proofs.Cursor.four.Reads as four-reads
 
--- src/lib.rt:205:9
 four-requires : tie.Need-four-requires
 four-requires c κs = search needs
 
--- src/lib.rt:202:5
 same-length : tie.Need-same-length
 same-length c = search needs
 
--- src/lib.rt:202:5
 returns : tie.Need-returns
 unfolding run plainStep
 returns c = rw (← land-plain Count) (c .before .before .four .ensures)

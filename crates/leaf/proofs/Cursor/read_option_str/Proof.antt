@@ -1,35 +1,26 @@
+-- The text follows, or its flag is 0.
+use borrow.Author.Needs.{needs}
 use Rattle.leaf.proofs.Forms.{may-in, may-out}
 use Rattle.layout.specs.Entities.{OptionStr}
-use borrow.Author.Needs.{needs}
 use Rattle.leaf.proofs.Cursor.read_option_str.Statement.{statement}
 use Rattle.leaf.proofs.Cursor.read_option_str.Tie as tie
-use Rattle.leaf.proofs.Cursor.read_option_str.Reads as reads
-use Rattle.leaf.proofs.Cursor.read_option_str.Lts as lts
-use Rattle.leaf.proofs.Cursor.read_bool.Reads as read-bool-reads
-use Rattle.leaf.proofs.Cursor.read_str.Reads as read-str-reads
 
--- src/lib.rt:242:13
 read-bool-requires : tie.Need-read-bool-requires
 read-bool-requires c κs = search needs
 
--- src/lib.rt:244:13
 read-str-requires : tie.Need-read-str-requires
 read-str-requires c κs = search needs
 
--- src/lib.rt:244:13
 same-length : tie.Need-same-length
 same-length c = search needs
 
--- src/lib.rt:244:13
 returns : tie.Need-returns
 unfolding OptionStr
 returns c = may-in _ _ _ _ _ (c .before .before .before .before .before .before .before .before .read-bool .ensures) (c .before .before .before .before .if1 .taken) (c .before .before .read-str .ensures)
 
--- src/lib.rt:239:5
 same-length-2 : tie.Need-same-length-2
 same-length-2 c = search needs
 
--- src/lib.rt:239:5
 returns-2 : tie.Need-returns-2
 unfolding OptionStr
 returns-2 c = may-out _ _ _ _ (c .before .before .before .before .read-bool .ensures) (c .if1 .left)

@@ -1,35 +1,26 @@
+-- The number follows, or its flag is 0.
+use borrow.Author.Needs.{needs}
 use Rattle.leaf.proofs.Forms.{may-in, may-out}
 use Rattle.layout.specs.Entities.{OptionU32}
-use borrow.Author.Needs.{needs}
 use Rattle.leaf.proofs.Cursor.read_option_u32.Statement.{statement}
 use Rattle.leaf.proofs.Cursor.read_option_u32.Tie as tie
-use Rattle.leaf.proofs.Cursor.read_option_u32.Reads as reads
-use Rattle.leaf.proofs.Cursor.read_option_u32.Lts as lts
-use Rattle.leaf.proofs.Cursor.read_bool.Reads as read-bool-reads
-use Rattle.leaf.proofs.Cursor.read_u32.Reads as read-u32-reads
 
--- src/lib.rt:253:13
 read-bool-requires : tie.Need-read-bool-requires
 read-bool-requires c κs = search needs
 
--- src/lib.rt:255:13
 read-u32-requires : tie.Need-read-u32-requires
 read-u32-requires c κs = search needs
 
--- src/lib.rt:255:13
 same-length : tie.Need-same-length
 same-length c = search needs
 
--- src/lib.rt:255:13
 returns : tie.Need-returns
 unfolding OptionU32
 returns c = may-in _ _ _ _ _ (c .before .before .before .before .before .before .before .before .read-bool .ensures) (c .before .before .before .before .if1 .taken) (c .before .before .read-u32 .ensures)
 
--- src/lib.rt:250:5
 same-length-2 : tie.Need-same-length-2
 same-length-2 c = search needs
 
--- src/lib.rt:250:5
 returns-2 : tie.Need-returns-2
 unfolding OptionU32
 returns-2 c = may-out _ _ _ _ (c .before .before .before .before .read-bool .ensures) (c .if1 .left)

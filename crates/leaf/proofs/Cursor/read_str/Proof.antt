@@ -1,127 +1,97 @@
+-- Refused, too many bytes, no length left, too long, not UTF-8, or the text.
+use Prim.Native.Nat.{_+_, _-_}
+use native.Mathlib.Omega.{arith}
+use mathlib.Core.Path.{sym, _∙_}
+use lib.ListN.{length}
+use borrow.Author.Needs.{needs}
+use borrow.Author.Tests.{lt-leb}
+use denote.Ref.{now}
 use Rattle.leaf.proofs.Leaves.{refused-stays, long-stops, goes-on, text-long, text-wrong, text-right}
 use Rattle.leaf.specs.State.{state, textStep}
 use Rattle.leaf.specs.Run.{run}
-use denote.Ref.{now}
-use lib.ListN.{length}
-use Prim.Native.Nat.{_+_, _-_}
-use borrow.Author.Tests.{lt-leb}
-use native.Mathlib.Omega.{arith}
-use mathlib.Core.Path.{sym, _∙_}
-use borrow.Author.Needs.{needs}
 use Rattle.leaf.proofs.Cursor.read_str.Statement.{statement}
 use Rattle.leaf.proofs.Cursor.read_str.Tie as tie
-use Rattle.leaf.proofs.Cursor.read_str.Reads as reads
-use Rattle.leaf.proofs.Cursor.read_str.Lts as lts
-use Rattle.leaf.proofs.Cursor.stop.Reads as stop-reads
-use Rattle.leaf.proofs.Cursor.store.Reads as store-reads
-use Rattle.leaf.proofs.number_at.Reads as number-at-reads
-use Rattle.text.proofs.is_utf8.Reads as is-utf8-reads
 
--- src/lib.rt:213:13
 returns : tie.Need-returns
 unfolding run textStep
 returns c = refused-stays _ _ _ _ (c .if1 .taken)
 
--- src/lib.rt:216:13
 stop-requires : tie.Need-stop-requires
 stop-requires c κs = search needs
 
--- src/lib.rt:216:13
 returns-2 : tie.Need-returns-2
 unfolding run textStep
 returns-2 c = long-stops _ _ _ _ (c .before .before .if1 .left) (c .before .if2 .taken) _ (c .stop .ensures)
 
--- src/lib.rt:220:13
 stop-requires-2 : tie.Need-stop-requires-2
 stop-requires-2 c κs = search needs
 
--- src/lib.rt:220:13
 returns-3 : tie.Need-returns-3
 unfolding run textStep
 returns-3 c = goes-on _ _ _ _ (c .before .before .before .if1 .left) (c .before .before .if2 .left) _ (simp (lt-leb (c .before .before .before .before .before .before .before .args .self .at + 4) (length (now (c .before .before .before .before .before .before .before .args .s))) (omega arith), c .stop2 .ensures))
 
--- src/lib.rt:222:12
 sub-if4 : tie.Need-sub-if4
 sub-if4 c = search needs
 
--- src/lib.rt:223:13
 stop-requires-3 : tie.Need-stop-requires-3
 stop-requires-3 c κs = search needs
 
--- src/lib.rt:223:13
 returns-4 : tie.Need-returns-4
 unfolding run textStep
 returns-4 c = goes-on _ _ _ _ (c .before .before .before .before .if1 .left) (c .before .before .before .if2 .left) _ (simp (lt-leb (c .before .before .before .before .before .before .before .before .args .self .at + 4) (length (now (c .before .before .before .before .before .before .before .before .args .s))) (omega arith), c .stop3 .ensures))
 
--- src/lib.rt:225:13
 number-at-requires : tie.Need-number-at-requires
 number-at-requires c κs = search needs
 
--- src/lib.rt:226:21
 add-start : tie.Need-add-start
 add-start c = search needs
 
--- src/lib.rt:227:20
 cast-size : tie.Need-cast-size
 cast-size c = search needs
 
--- src/lib.rt:228:12
 sub-if5 : tie.Need-sub-if5
 sub-if5 c = search needs
 
--- src/lib.rt:229:13
 stop-requires-4 : tie.Need-stop-requires-4
 stop-requires-4 c κs = search needs
 
--- src/lib.rt:229:13
 returns-5 : tie.Need-returns-5
 unfolding run textStep
 returns-5 c = goes-on _ _ _ _ (c .before .before .before .before .before .before .if1 .left) (c .before .before .before .before .before .if2 .left) _ (rw (c .stop4 .ensures) (sym (text-long (now (c .before .before .before .before .before .before .before .before .before .before .args .s)) (state (c .before .before .before .before .before .before .before .before .before .before .args .self) (now (c .before .before .before .before .before .before .before .before .before .before .args .t))) (c .before .before .number-at .result) (c .before .before .number-at .ensures) (omega arith) (omega arith))))
 
--- src/lib.rt:231:19
 add-end : tie.Need-add-end
 add-end c = search needs
 
--- src/lib.rt:232:26
 sub-is-utf8 : tie.Need-sub-is-utf8
 sub-is-utf8 c = search needs
 
--- src/lib.rt:232:26
 part-is-utf8-start : tie.Need-part-is-utf8-start
 part-is-utf8-start c = search needs
 
--- src/lib.rt:232:26
 part-is-utf8-end : tie.Need-part-is-utf8-end
 part-is-utf8-end c = search needs
 
--- src/lib.rt:232:12
 is-utf8-requires : tie.Need-is-utf8-requires
 is-utf8-requires c κs = search needs
 
--- src/lib.rt:233:45
 cast-store : tie.Need-cast-store
 cast-store c = search needs
 
--- src/lib.rt:233:13
 store-requires : tie.Need-store-requires
 store-requires c κs = search needs
 
--- src/lib.rt:233:13
 same-length : tie.Need-same-length
 same-length c = search needs
 
--- src/lib.rt:233:13
 returns-6 : tie.Need-returns-6
 unfolding run textStep
 returns-6 c =
     let at = c .before .before .before .before .before .before .before .before .before .before .before .before .before .before .before .before .args .self .at in let n = c .before .before .before .before .before .before .before .before .number-at .result in
     goes-on _ _ _ _ (c .before .before .before .before .before .before .before .before .before .before .before .before .if1 .left) (c .before .before .before .before .before .before .before .before .before .before .before .if2 .left) _ (c .before .before .store .ensures ∙ sym (text-right _ (state (c .before .before .before .before .before .before .before .before .before .before .before .before .before .before .before .before .args .self) (now (c .before .before .before .before .before .before .before .before .before .before .before .before .before .before .before .before .args .t))) n (c .before .before .before .before .before .before .before .before .number-at .ensures) (omega arith) (omega arith) (at + 4 + n - (at + 4)) (omega arith) (sym (c .before .before .before .before .before .is-utf8 .ensures) ∙ c .before .before .before .before .if6 .taken)))
 
--- src/lib.rt:235:9
 stop-requires-5 : tie.Need-stop-requires-5
 stop-requires-5 c κs = search needs
 
--- src/lib.rt:209:5
 returns-7 : tie.Need-returns-7
 unfolding run textStep
 returns-7 c =

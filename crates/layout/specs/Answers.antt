@@ -14,6 +14,7 @@ pub data Answer : Type 0 where
   accepted : (entities rows : ℕ) → Answer
   refused : (number place : ℕ) → Answer
 
+-- The answer accepts
 abbrev pub Accepts : Answer → Type 0
 Accepts (accepted entities rows) = Unit {0}
 Accepts (refused number place) = ⊥

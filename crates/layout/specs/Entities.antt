@@ -1,5 +1,5 @@
 -- The layouts of the nine entities and of their parts, in the order of `decode_entity` and of the `read_` functions of
--- src/section.rs, by whose names they go. Beside a part stands the name of its field, beside a tag that of its constant.
+-- src/section.rs, by whose names they go. Beside a part stands the name of its field, beside a tag that of its case.
 use Prim.Native.Nat.{ℕ}
 use mathlib.Core.Bool.{cond, _||_}
 use mathlib.Core.List.{List, [], _∷_, _++_, map}
@@ -13,9 +13,11 @@ use Rattle.layout.specs.Forms.{number, flag, list, may, Tags, _⇒_, kin
 unfoldable pub OptionStr : Layout
 OptionStr = may text
 
+-- A number that may be missing
 unfoldable pub OptionU32 : Layout
 OptionU32 = may number
 
+-- A list of texts
 unfoldable pub StrList : Layout
 StrList = list text
 
@@ -27,6 +29,7 @@ Numeric =
     then flag  -- has_scale
     then number  -- scale
 
+-- The tags of an array's mapping
 abbrev pub sqlArrayMappings : Tags
 sqlArrayMappings =
     1 ⇒ text  -- As
@@ -34,9 +37,11 @@ sqlArrayMappings =
     ∷ 4 ⇒ nothing  -- Composite
     ∷ []
 
+-- An array's mapping
 unfoldable pub SqlArrayMapping : Layout
 SqlArrayMapping = tags sqlArrayMappings
 
+-- The tags of a mapping
 abbrev pub sqlMappings : Tags
 sqlMappings =
     1 ⇒ text  -- As
@@ -46,12 +51,15 @@ sqlMappings =
     ∷ 5 ⇒ nothing  -- Skip
     ∷ []
 
+-- A mapping
 unfoldable pub SqlMapping : Layout
 SqlMapping = tags sqlMappings
 
+-- The columns of a table
 unfoldable pub SqlMappingList : Layout
 SqlMappingList = list SqlMapping
 
+-- The tags of what is returned
 abbrev pub returnsTags : Tags
 returnsTags =
     1 ⇒ SqlMapping  -- One
@@ -59,6 +67,7 @@ returnsTags =
     ∷ 3 ⇒ SqlMappingList  -- Table
     ∷ []
 
+-- What is returned
 unfoldable pub Returns : Layout
 Returns = tags returnsTags
 
@@ -68,9 +77,11 @@ argumentErrors =
     bare 1 6
     ++ (7 ⇒ text ∷ [])  -- NotValidAsArgument
 
+-- Why a type is no argument
 unfoldable pub ArgumentError : Layout
 ArgumentError = tags argumentErrors
 
+-- The tags of an argument-side result
 abbrev pub argumentResults : Tags
 argumentResults =
     1 ⇒ SqlMapping  -- Ok
@@ -86,6 +97,7 @@ ArgumentSql = tags argumentResults
 unfoldable pub ReturnsError : Layout
 ReturnsError = tags (bare 1 10)
 
+-- The tags of a return-side result
 abbrev pub returnResults : Tags
 returnResults =
     1 ⇒ Returns  -- Ok
@@ -96,15 +108,18 @@ returnResults =
 unfoldable pub ReturnSql : Layout
 ReturnSql = tags returnResults
 
+-- The tags of a positioning ref
 abbrev pub positioningRefs : Tags
 positioningRefs =
     1 ⇒ text  -- FullPath
     ∷ 2 ⇒ text  -- Name
     ∷ []
 
+-- A positioning ref
 unfoldable pub PositioningRef : Layout
 PositioningRef = tags positioningRefs
 
+-- A list of positioning refs
 unfoldable pub PositioningRefList : Layout
 PositioningRefList = list PositioningRef
 
@@ -118,11 +133,13 @@ ToSqlConfig =
 unfoldable pub TypeOrigin : Layout
 TypeOrigin = tags (bare 1 2)
 
+-- Where a type comes from
 unfoldable pub Resolution : Layout
 Resolution =
     text  -- type_ident
     then TypeOrigin  -- type_origin
 
+-- Where a type comes from, if that is known
 unfoldable pub OptionResolution : Layout
 OptionResolution = may Resolution
 
@@ -133,6 +150,7 @@ FunctionMetadataType =
     then ArgumentSql  -- argument_sql
     then ReturnSql  -- return_sql
 
+-- A used type
 unfoldable pub UsedType : Layout
 UsedType =
     text  -- ty_source
@@ -143,14 +161,17 @@ UsedType =
     then flag  -- optional
     then FunctionMetadataType  -- metadata
 
+-- A used type that may be missing
 unfoldable pub OptionUsedType : Layout
 OptionUsedType = may UsedType
 
+-- A function's argument
 unfoldable pub PgExternArgument : Layout
 PgExternArgument =
     text  -- pattern
     then UsedType  -- used_ty
 
+-- A function's arguments
 unfoldable pub PgExternArgumentList : Layout
 PgExternArgumentList = list PgExternArgument
 
@@ -160,12 +181,15 @@ AggregateType =
     OptionStr  -- name
     then UsedType  -- used_ty
 
+-- A list of such types
 unfoldable pub AggregateTypeList : Layout
 AggregateTypeList = list AggregateType
 
+-- A list of such types that may be missing
 unfoldable pub OptionAggregateTypeList : Layout
 OptionAggregateTypeList = may AggregateTypeList
 
+-- The tags of a function's return
 abbrev pub pgExternReturns : Tags
 pgExternReturns =
     1 ⇒ nothing  -- None
@@ -184,6 +208,7 @@ PgExternReturn = tags pgExternReturns
 abbrev pub bareExternArgs : Tags
 bareExternArgs = bare 1 12
 
+-- The other attributes
 abbrev pub otherExternArgs : Tags
 otherExternArgs =
     13 ⇒ text  -- ShouldPanic
@@ -198,12 +223,15 @@ otherExternArgs =
 unfoldable pub ExternArg : Layout
 ExternArg = tags (bareExternArgs ++ otherExternArgs)
 
+-- A function's attributes
 unfoldable pub ExternArgList : Layout
 ExternArgList = list ExternArg
 
+-- A search path that may be missing
 unfoldable pub SearchPath : Layout
 SearchPath = may StrList
 
+-- An operator
 unfoldable pub Operator : Layout
 Operator =
     OptionStr  -- opname
@@ -214,6 +242,7 @@ Operator =
     then flag  -- hashes
     then flag  -- merges
 
+-- An operator that may be missing
 unfoldable pub OptionOperator : Layout
 OptionOperator = may Operator
 
@@ -221,6 +250,7 @@ OptionOperator = may Operator
 unfoldable pub Cast : Layout
 Cast = tags (bare 1 3)
 
+-- A cast that may be missing
 unfoldable pub OptionCast : Layout
 OptionCast = may Cast
 
@@ -234,6 +264,7 @@ abbrev pub asOrNumeric : ℕ → ℕ → Verdict
 asOrNumeric result mapping =
     cond (eqb result 1) (cond (eqb mapping 1 || eqb mapping 3) fine (wrong other-mapping)) (wrong error-result)
 
+-- The same, from the leaves
 abbrev pub resultVerdict : List Leaf → Verdict
 resultVerdict ls = asOrNumeric (valueIn ls 0) (valueIn ls 1)
 
@@ -241,11 +272,13 @@ resultVerdict ls = asOrNumeric (valueIn ls 0) (valueIn ls 1)
 unfoldable pub DeclaredSql : Layout
 DeclaredSql = check ArgumentSql resultVerdict
 
+-- What follows the name of a declared type or enum
 unfoldable pub DeclaredType : Layout
 DeclaredType =
     text  -- type_ident
     then DeclaredSql  -- sql
 
+-- The kinds of a declaration
 abbrev pub sqlDeclareds : Tags
 sqlDeclareds =
     1 ⇒ DeclaredType  -- Type
@@ -257,6 +290,7 @@ sqlDeclareds =
 unfoldable pub SqlDeclared : Layout
 SqlDeclared = tagsAfter text sqlDeclareds
 
+-- A list of declarations
 unfoldable pub SqlDeclaredList : Layout
 SqlDeclaredList = list SqlDeclared
 
@@ -264,6 +298,7 @@ SqlDeclaredList = list SqlDeclared
 unfoldable pub FinalizeModify : Layout
 FinalizeModify = tags (bare 1 3)
 
+-- The same, if it is there
 unfoldable pub OptionFinalizeModify : Layout
 OptionFinalizeModify = may FinalizeModify
 
@@ -271,9 +306,11 @@ OptionFinalizeModify = may FinalizeModify
 unfoldable pub ParallelOption : Layout
 ParallelOption = tags (bare 1 3)
 
+-- The same, if it is there
 unfoldable pub OptionParallelOption : Layout
 OptionParallelOption = may ParallelOption
 
+-- 1: schema
 unfoldable pub Schema : Layout
 Schema =
     text  -- module_path
@@ -281,6 +318,7 @@ Schema =
     then text  -- file
     then number  -- line
 
+-- 2: custom SQL
 unfoldable pub CustomSql : Layout
 CustomSql =
     text  -- sql
@@ -294,6 +332,7 @@ CustomSql =
     then PositioningRefList  -- requires
     then SqlDeclaredList  -- creates
 
+-- 3: function
 unfoldable pub Function : Layout
 Function =
     text  -- name
@@ -311,6 +350,7 @@ Function =
     then OptionCast  -- cast
     then ToSqlConfig  -- to_sql_config
 
+-- 4: type
 unfoldable pub PostgresType : Layout
 PostgresType =
     text  -- name
@@ -326,6 +366,7 @@ PostgresType =
     then ToSqlConfig  -- to_sql_config
     then OptionU32  -- alignment
 
+-- 5: enum
 unfoldable pub PostgresEnum : Layout
 PostgresEnum =
     text  -- name
@@ -337,6 +378,7 @@ PostgresEnum =
     then StrList  -- variants
     then ToSqlConfig  -- to_sql_config
 
+-- 6 and 7: ord, hash
 unfoldable pub OrdOrHash : Layout
 OrdOrHash =
     text  -- name
@@ -347,6 +389,7 @@ OrdOrHash =
     then text  -- type_ident
     then ToSqlConfig  -- to_sql_config
 
+-- 8: aggregate
 unfoldable pub Aggregate : Layout
 Aggregate =
     text  -- full_path
@@ -376,6 +419,7 @@ Aggregate =
     then flag  -- hypothetical
     then ToSqlConfig  -- to_sql_config
 
+-- 9: trigger
 unfoldable pub Trigger : Layout
 Trigger =
     text  -- function_name
@@ -385,6 +429,7 @@ Trigger =
     then text  -- full_path
     then ToSqlConfig  -- to_sql_config
 
+-- The kinds of entities
 abbrev pub entities : Tags
 entities =
     1 ⇒ Schema

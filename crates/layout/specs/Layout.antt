@@ -35,6 +35,7 @@ refusalOf unknown-tag = 9
 refusalOf other-mapping = 10
 refusalOf error-result = 11
 
+-- What a judge says
 pub data Verdict : Type 0 where
   fine : Verdict
   wrong : Fault → Verdict

@@ -75,6 +75,7 @@ flagAt s at = need (enough s at 1) 5 at (need (ltb (getD s at 0) 2) 6 at (ok (ge
 abbrev pub fourAt : List ℕ → ℕ → Outcome ℕ ℕ
 fourAt s at = need (enough s at 4) 5 at (ok (numberAt s at) (at + 4))
 
+-- The read of a leaf that holds a number, by its sort
 abbrev pub plainAt : List ℕ → Sort → ℕ → Outcome ℕ ℕ
 plainAt s Kind at = byteAt s at
 plainAt s Tag at = byteAt s at
@@ -86,6 +87,7 @@ plainAt s Count at = fourAt s at
 abbrev pub bodyAt : List ℕ → (n place : ℕ) → Outcome ℕ (List ℕ)
 bodyAt s n at = need (enough s at n) 5 at (need (utf8 (take n (drop at s))) 7 at (ok (take n (drop at s)) (at + n)))
 
+-- The read of a text: its length, then as many bytes
 abbrev pub textAt : List ℕ → ℕ → Outcome ℕ (List ℕ)
 textAt s at = fourAt s at >>= λ n at₁. bodyAt s n at₁
 
@@ -93,6 +95,7 @@ textAt s at = fourAt s at >>= λ n at₁. bodyAt s n at₁
 abbrev pub inBytes : List ℕ → Source
 inBytes s = record { State = ℕ; takePlain = plainAt s; takeText = textAt s; place = λ at. at }
 
+-- The value of a layout at a place of s, and where it ends
 unfoldable pub readValue : (L : Layout) → List ℕ → ℕ → Outcome ℕ (Value L)
 readValue L s at = walk (inBytes s) L at
 

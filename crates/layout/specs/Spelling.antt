@@ -30,6 +30,7 @@ textOf test (string t ∷ ls) = need (test (string t)) 14 0 (ok t ls)
 abbrev pub inLeaves : (test : Leaf → Bool) → Source
 inLeaves test = record { State = List Leaf; takePlain = plainOf test; takeText = textOf test; place = λ ls. 0 }
 
+-- The value of a layout that the leaves begin with, and the leaves behind it
 unfoldable pub spellValue : (test : Leaf → Bool) (L : Layout) → List Leaf → Outcome (List Leaf) (Value L)
 spellValue test L ls = walk (inLeaves test) L ls
 

@@ -21,6 +21,7 @@ abbrev pub leafBytes : Leaf → List ℕ
 leafBytes (plain srt n) = plainBytes srt n
 leafBytes (string t) = four (length t) ++ t
 
+-- The bytes of leaves, one after the other
 abbrev pub bytesOf : List Leaf → List ℕ
 bytesOf [] = []
 bytesOf (x ∷ ls) = leafBytes x ++ bytesOf ls

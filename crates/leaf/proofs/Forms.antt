@@ -147,3 +147,8 @@ loop-refused L s w st e h = sym (e ∙ run-refused L s st h)
 pub check-law : (A : Layout) (j : List Leaf → Verdict) (s : List ℕ) (st st₁ r : State) → st₁ ≡ run A s st → r ≡ pass (verdictOn j (read A s (st .cursor .at))) (st .cursor .at) st₁ → r ≡ run (check A j) s st
 unfolding run
 check-law A j s st st₁ r e q = q ∙ ap (pass (verdictOn j (read A s (st .cursor .at))) (st .cursor .at)) e
+
+-- A sequence: what reads A, and what reads B after it
+pub then-in : (A B : Layout) (s : List ℕ) (st st₁ r : State) → st₁ ≡ run A s st → r ≡ run B s st₁ → r ≡ run (A then B) s st
+unfolding run
+then-in A B s st st₁ r e q = q ∙ ap (run B s) e

@@ -17,6 +17,7 @@ abbrev pub answerOf : declared.Answer → answers.Answer
 answerOf (Accepted entities rows) = answers.accepted entities rows
 answerOf (Refused number place) = answers.refused number place
 
+-- An answer of the code, with the table after it
 abbrev pub resultOf : declared.Answer → List ℕ → Result
 resultOf a table = record { answer = answerOf a; table = table }
 

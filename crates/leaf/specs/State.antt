@@ -11,10 +11,12 @@ use Rattle.layout.specs.Answers.{wholeRows}
 use Rattle.layout.specs.Alone.{limit}
 use Rattle.leaf.specs.declared.Cursor.{Cursor}
 
+-- A cursor with its table
 pub record State : Type 0 where
   pub cursor : Cursor
   pub table : List ℕ
 
+-- The two together
 abbrev pub state : Cursor → List ℕ → State
 state c table = record { cursor = c; table = table }
 
@@ -30,6 +32,7 @@ stopped n p c = record { at = c .at; rows = c .rows; refusal = n; short = c .sho
 abbrev pub refusedOnce : (number place : ℕ) → Cursor → Cursor
 refusedOnce n p c = cond (eqb (c .refusal) 0) (stopped n p c) c
 
+-- A state whose cursor is refused
 abbrev pub stop : (number place : ℕ) → State → State
 stop n p st = state (stopped n p (st .cursor)) (st .table)
 
@@ -56,6 +59,7 @@ put row value next st =
     })
     (cond (room st) (store (st .table) (rowWidth * st .cursor .rows) row) (st .table))
 
+-- What a leaf's read makes of a state: its row is put, or it is refused
 abbrev pub arrive : Outcome ℕ Leaf → State → State
 arrive (ok x next) st = put (rowAt (st .cursor .at) x) (leafValue x) next st
 arrive (refuse n p) st = stop n p st

@@ -1,7 +1,7 @@
 -- The parts, one after the other.
 use mathlib.Core.Path.{_∙_}
 use Rattle.entity.specs.Private.{AggregateFunctions}
-use Rattle.leaf.specs.Run.{run}
+use Rattle.leaf.proofs.Forms.{then-in}
 use Rattle.entity.proofs.read_aggregate_functions.Statement.{statement}
 use Rattle.entity.proofs.read_aggregate_functions.Tie as tie
 
@@ -30,8 +30,8 @@ same-length : tie.Need-same-length
 same-length c = c .before .before .read-option-str5 .kept .1 .1 .0 ∙ c .before .before .before .before .before .before .read-option-str4 .kept .1 .1 .0 ∙ c .before .before .before .before .before .before .before .before .before .before .read-option-str3 .kept .1 .1 .0 ∙ c .before .before .before .before .before .before .before .before .before .before .before .before .before .before .read-option-str2 .kept .1 .1 .0 ∙ c .before .before .before .before .before .before .before .before .before .before .before .before .before .before .before .before .before .before .read-option-finalize-modify .kept .1 .1 .0 ∙ c .before .before .before .before .before .before .before .before .before .before .before .before .before .before .before .before .before .before .before .before .before .before .read-option-str .kept .1 .1 .0 ∙ c .before .before .before .before .before .before .before .before .before .before .before .before .before .before .before .before .before .before .before .before .before .before .before .before .before .before .read-str .kept .1 .1 .0
 
 returns : tie.Need-returns
-unfolding run AggregateFunctions
-returns c = cc (c .before .before .before .before .before .before .before .before .before .before .before .before .before .before .before .before .before .before .before .before .before .before .before .before .before .before .read-str .ensures, c .before .before .before .before .before .before .before .before .before .before .before .before .before .before .before .before .before .before .before .before .before .before .read-option-str .ensures, c .before .before .before .before .before .before .before .before .before .before .before .before .before .before .before .before .before .before .read-option-finalize-modify .ensures, c .before .before .before .before .before .before .before .before .before .before .before .before .before .before .read-option-str2 .ensures, c .before .before .before .before .before .before .before .before .before .before .read-option-str3 .ensures, c .before .before .before .before .before .before .read-option-str4 .ensures, c .before .before .read-option-str5 .ensures)
+unfolding AggregateFunctions
+returns c = then-in _ _ _ _ _ _ (c .before .before .before .before .before .before .before .before .before .before .before .before .before .before .before .before .before .before .before .before .before .before .before .before .before .before .read-str .ensures) (then-in _ _ _ _ _ _ (c .before .before .before .before .before .before .before .before .before .before .before .before .before .before .before .before .before .before .before .before .before .before .read-option-str .ensures) (then-in _ _ _ _ _ _ (c .before .before .before .before .before .before .before .before .before .before .before .before .before .before .before .before .before .before .read-option-finalize-modify .ensures) (then-in _ _ _ _ _ _ (c .before .before .before .before .before .before .before .before .before .before .before .before .before .before .read-option-str2 .ensures) (then-in _ _ _ _ _ _ (c .before .before .before .before .before .before .before .before .before .before .read-option-str3 .ensures) (then-in _ _ _ _ _ _ (c .before .before .before .before .before .before .read-option-str4 .ensures) (c .before .before .read-option-str5 .ensures))))))
 
 pub read-aggregate-functions-spec : {M : Type 1} → statement M
 read-aggregate-functions-spec =

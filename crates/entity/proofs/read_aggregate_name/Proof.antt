@@ -1,7 +1,7 @@
 -- The parts, one after the other.
 use mathlib.Core.Path.{_∙_}
 use Rattle.entity.specs.Private.{AggregateName}
-use Rattle.leaf.specs.Run.{run}
+use Rattle.leaf.proofs.Forms.{then-in}
 use Rattle.entity.proofs.read_aggregate_name.Statement.{statement}
 use Rattle.entity.proofs.read_aggregate_name.Tie as tie
 
@@ -27,8 +27,8 @@ same-length : tie.Need-same-length
 same-length c = c .before .before .read-bool .kept .1 .1 .0 ∙ c .before .before .before .before .before .before .read-str4 .kept .1 .1 .0 ∙ c .before .before .before .before .before .before .before .before .before .before .read-u32 .kept .1 .1 .0 ∙ c .before .before .before .before .before .before .before .before .before .before .before .before .before .before .read-str3 .kept .1 .1 .0 ∙ c .before .before .before .before .before .before .before .before .before .before .before .before .before .before .before .before .before .before .read-str2 .kept .1 .1 .0 ∙ c .before .before .before .before .before .before .before .before .before .before .before .before .before .before .before .before .before .before .before .before .before .before .read-str .kept .1 .1 .0
 
 returns : tie.Need-returns
-unfolding run AggregateName
-returns c = cc (c .before .before .before .before .before .before .before .before .before .before .before .before .before .before .before .before .before .before .before .before .before .before .read-str .ensures, c .before .before .before .before .before .before .before .before .before .before .before .before .before .before .before .before .before .before .read-str2 .ensures, c .before .before .before .before .before .before .before .before .before .before .before .before .before .before .read-str3 .ensures, c .before .before .before .before .before .before .before .before .before .before .read-u32 .ensures, c .before .before .before .before .before .before .read-str4 .ensures, c .before .before .read-bool .ensures)
+unfolding AggregateName
+returns c = then-in _ _ _ _ _ _ (c .before .before .before .before .before .before .before .before .before .before .before .before .before .before .before .before .before .before .before .before .before .before .read-str .ensures) (then-in _ _ _ _ _ _ (c .before .before .before .before .before .before .before .before .before .before .before .before .before .before .before .before .before .before .read-str2 .ensures) (then-in _ _ _ _ _ _ (c .before .before .before .before .before .before .before .before .before .before .before .before .before .before .read-str3 .ensures) (then-in _ _ _ _ _ _ (c .before .before .before .before .before .before .before .before .before .before .read-u32 .ensures) (then-in _ _ _ _ _ _ (c .before .before .before .before .before .before .read-str4 .ensures) (c .before .before .read-bool .ensures)))))
 
 pub read-aggregate-name-spec : {M : Type 1} → statement M
 read-aggregate-name-spec =

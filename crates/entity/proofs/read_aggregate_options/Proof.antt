@@ -1,7 +1,7 @@
 -- The parts, one after the other.
 use mathlib.Core.Path.{_∙_}
 use Rattle.entity.specs.Private.{AggregateOptions}
-use Rattle.leaf.specs.Run.{run}
+use Rattle.leaf.proofs.Forms.{then-in}
 use Rattle.entity.proofs.read_aggregate_options.Statement.{statement}
 use Rattle.entity.proofs.read_aggregate_options.Tie as tie
 
@@ -18,8 +18,8 @@ same-length : tie.Need-same-length
 same-length c = c .before .before .read-bool .kept .1 .1 .0 ∙ c .before .before .before .before .before .before .read-option-parallel-option .kept .1 .1 .0 ∙ c .before .before .before .before .before .before .before .before .before .before .read-option-str .kept .1 .1 .0
 
 returns : tie.Need-returns
-unfolding run AggregateOptions
-returns c = cc
+unfolding AggregateOptions
+returns c = then-in _ _ _ _ _ _ (c .before .before .before .before .before .before .before .before .before .before .read-option-str .ensures) (then-in _ _ _ _ _ _ (c .before .before .before .before .before .before .read-option-parallel-option .ensures) (c .before .before .read-bool .ensures))
 
 pub read-aggregate-options-spec : {M : Type 1} → statement M
 read-aggregate-options-spec =

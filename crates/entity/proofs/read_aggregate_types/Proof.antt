@@ -1,7 +1,7 @@
 -- The parts, one after the other.
 use mathlib.Core.Path.{_∙_}
 use Rattle.entity.specs.Private.{AggregateTypes}
-use Rattle.leaf.specs.Run.{run}
+use Rattle.leaf.proofs.Forms.{then-in}
 use Rattle.entity.proofs.read_aggregate_types.Statement.{statement}
 use Rattle.entity.proofs.read_aggregate_types.Tie as tie
 
@@ -18,8 +18,8 @@ same-length : tie.Need-same-length
 same-length c = c .before .before .read-aggregate-type .kept .1 .1 .0 ∙ c .before .before .before .before .before .before .read-option-aggregate-type-list .kept .1 .1 .0 ∙ c .before .before .before .before .before .before .before .before .before .before .read-aggregate-type-list .kept .1 .1 .0
 
 returns : tie.Need-returns
-unfolding run AggregateTypes
-returns c = cc
+unfolding AggregateTypes
+returns c = then-in _ _ _ _ _ _ (c .before .before .before .before .before .before .before .before .before .before .read-aggregate-type-list .ensures) (then-in _ _ _ _ _ _ (c .before .before .before .before .before .before .read-option-aggregate-type-list .ensures) (c .before .before .read-aggregate-type .ensures))
 
 pub read-aggregate-types-spec : {M : Type 1} → statement M
 read-aggregate-types-spec =

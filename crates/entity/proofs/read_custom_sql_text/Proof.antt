@@ -1,7 +1,7 @@
 -- The parts, one after the other.
 use mathlib.Core.Path.{_∙_}
 use Rattle.entity.specs.Private.{CustomSqlText}
-use Rattle.leaf.specs.Run.{run}
+use Rattle.leaf.proofs.Forms.{then-in}
 use Rattle.entity.proofs.read_custom_sql_text.Statement.{statement}
 use Rattle.entity.proofs.read_custom_sql_text.Tie as tie
 
@@ -27,8 +27,8 @@ same-length : tie.Need-same-length
 same-length c = c .before .before .read-str5 .kept .1 .1 .0 ∙ c .before .before .before .before .before .before .read-u32 .kept .1 .1 .0 ∙ c .before .before .before .before .before .before .before .before .before .before .read-str4 .kept .1 .1 .0 ∙ c .before .before .before .before .before .before .before .before .before .before .before .before .before .before .read-str3 .kept .1 .1 .0 ∙ c .before .before .before .before .before .before .before .before .before .before .before .before .before .before .before .before .before .before .read-str2 .kept .1 .1 .0 ∙ c .before .before .before .before .before .before .before .before .before .before .before .before .before .before .before .before .before .before .before .before .before .before .read-str .kept .1 .1 .0
 
 returns : tie.Need-returns
-unfolding run CustomSqlText
-returns c = cc (c .before .before .before .before .before .before .before .before .before .before .before .before .before .before .before .before .before .before .before .before .before .before .read-str .ensures, c .before .before .before .before .before .before .before .before .before .before .before .before .before .before .before .before .before .before .read-str2 .ensures, c .before .before .before .before .before .before .before .before .before .before .before .before .before .before .read-str3 .ensures, c .before .before .before .before .before .before .before .before .before .before .read-str4 .ensures, c .before .before .before .before .before .before .read-u32 .ensures, c .before .before .read-str5 .ensures)
+unfolding CustomSqlText
+returns c = then-in _ _ _ _ _ _ (c .before .before .before .before .before .before .before .before .before .before .before .before .before .before .before .before .before .before .before .before .before .before .read-str .ensures) (then-in _ _ _ _ _ _ (c .before .before .before .before .before .before .before .before .before .before .before .before .before .before .before .before .before .before .read-str2 .ensures) (then-in _ _ _ _ _ _ (c .before .before .before .before .before .before .before .before .before .before .before .before .before .before .read-str3 .ensures) (then-in _ _ _ _ _ _ (c .before .before .before .before .before .before .before .before .before .before .read-str4 .ensures) (then-in _ _ _ _ _ _ (c .before .before .before .before .before .before .read-u32 .ensures) (c .before .before .read-str5 .ensures)))))
 
 pub read-custom-sql-text-spec : {M : Type 1} → statement M
 read-custom-sql-text-spec =

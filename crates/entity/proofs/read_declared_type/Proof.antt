@@ -1,7 +1,7 @@
 -- The parts, one after the other.
 use mathlib.Core.Path.{_∙_}
 use Rattle.layout.specs.Entities.{DeclaredType}
-use Rattle.leaf.specs.Run.{run}
+use Rattle.leaf.proofs.Forms.{then-in}
 use Rattle.entity.proofs.read_declared_type.Statement.{statement}
 use Rattle.entity.proofs.read_declared_type.Tie as tie
 
@@ -15,8 +15,8 @@ same-length : tie.Need-same-length
 same-length c = c .before .before .read-declared-sql .kept .1 .1 .0 ∙ c .before .before .before .before .before .before .read-str .kept .1 .1 .0
 
 returns : tie.Need-returns
-unfolding run DeclaredType
-returns c = cc
+unfolding DeclaredType
+returns c = then-in _ _ _ _ _ _ (c .before .before .before .before .before .before .read-str .ensures) (c .before .before .read-declared-sql .ensures)
 
 pub read-declared-type-spec : {M : Type 1} → statement M
 read-declared-type-spec =

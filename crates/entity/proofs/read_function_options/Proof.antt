@@ -1,7 +1,7 @@
 -- The parts, one after the other.
 use mathlib.Core.Path.{_∙_}
 use Rattle.entity.specs.Private.{FunctionOptions}
-use Rattle.leaf.specs.Run.{run}
+use Rattle.leaf.proofs.Forms.{then-in}
 use Rattle.entity.proofs.read_function_options.Statement.{statement}
 use Rattle.entity.proofs.read_function_options.Tie as tie
 
@@ -21,8 +21,8 @@ same-length : tie.Need-same-length
 same-length c = c .before .before .read-option-cast .kept .1 .1 .0 ∙ c .before .before .before .before .before .before .read-option-operator .kept .1 .1 .0 ∙ c .before .before .before .before .before .before .before .before .before .before .read-search-path .kept .1 .1 .0 ∙ c .before .before .before .before .before .before .before .before .before .before .before .before .before .before .read-extern-arg-list .kept .1 .1 .0
 
 returns : tie.Need-returns
-unfolding run FunctionOptions
-returns c = cc
+unfolding FunctionOptions
+returns c = then-in _ _ _ _ _ _ (c .before .before .before .before .before .before .before .before .before .before .before .before .before .before .read-extern-arg-list .ensures) (then-in _ _ _ _ _ _ (c .before .before .before .before .before .before .before .before .before .before .read-search-path .ensures) (then-in _ _ _ _ _ _ (c .before .before .before .before .before .before .read-option-operator .ensures) (c .before .before .read-option-cast .ensures)))
 
 pub read-function-options-spec : {M : Type 1} → statement M
 read-function-options-spec =

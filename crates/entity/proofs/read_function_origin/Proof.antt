@@ -1,7 +1,7 @@
 -- The parts, one after the other.
 use mathlib.Core.Path.{_∙_}
 use Rattle.entity.specs.Private.{FunctionOrigin}
-use Rattle.leaf.specs.Run.{run}
+use Rattle.leaf.proofs.Forms.{then-in}
 use Rattle.entity.proofs.read_function_origin.Statement.{statement}
 use Rattle.entity.proofs.read_function_origin.Tie as tie
 
@@ -18,8 +18,8 @@ same-length : tie.Need-same-length
 same-length c = c .before .before .read-u32 .kept .1 .1 .0 ∙ c .before .before .before .before .before .before .read-str .kept .1 .1 .0 ∙ c .before .before .before .before .before .before .before .before .before .before .read-option-str .kept .1 .1 .0
 
 returns : tie.Need-returns
-unfolding run FunctionOrigin
-returns c = cc
+unfolding FunctionOrigin
+returns c = then-in _ _ _ _ _ _ (c .before .before .before .before .before .before .before .before .before .before .read-option-str .ensures) (then-in _ _ _ _ _ _ (c .before .before .before .before .before .before .read-str .ensures) (c .before .before .read-u32 .ensures))
 
 pub read-function-origin-spec : {M : Type 1} → statement M
 read-function-origin-spec =

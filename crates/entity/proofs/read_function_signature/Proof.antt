@@ -1,7 +1,7 @@
 -- The parts, one after the other.
 use mathlib.Core.Path.{_∙_}
 use Rattle.entity.specs.Private.{FunctionSignature}
-use Rattle.leaf.specs.Run.{run}
+use Rattle.leaf.proofs.Forms.{then-in}
 use Rattle.entity.proofs.read_function_signature.Statement.{statement}
 use Rattle.entity.proofs.read_function_signature.Tie as tie
 
@@ -27,8 +27,8 @@ same-length : tie.Need-same-length
 same-length c = c .before .before .read-pg-extern-return .kept .1 .1 .0 ∙ c .before .before .before .before .before .before .read-pg-extern-argument-list .kept .1 .1 .0 ∙ c .before .before .before .before .before .before .before .before .before .before .read-str4 .kept .1 .1 .0 ∙ c .before .before .before .before .before .before .before .before .before .before .before .before .before .before .read-str3 .kept .1 .1 .0 ∙ c .before .before .before .before .before .before .before .before .before .before .before .before .before .before .before .before .before .before .read-str2 .kept .1 .1 .0 ∙ c .before .before .before .before .before .before .before .before .before .before .before .before .before .before .before .before .before .before .before .before .before .before .read-str .kept .1 .1 .0
 
 returns : tie.Need-returns
-unfolding run FunctionSignature
-returns c = cc (c .before .before .before .before .before .before .before .before .before .before .before .before .before .before .before .before .before .before .before .before .before .before .read-str .ensures, c .before .before .before .before .before .before .before .before .before .before .before .before .before .before .before .before .before .before .read-str2 .ensures, c .before .before .before .before .before .before .before .before .before .before .before .before .before .before .read-str3 .ensures, c .before .before .before .before .before .before .before .before .before .before .read-str4 .ensures, c .before .before .before .before .before .before .read-pg-extern-argument-list .ensures, c .before .before .read-pg-extern-return .ensures)
+unfolding FunctionSignature
+returns c = then-in _ _ _ _ _ _ (c .before .before .before .before .before .before .before .before .before .before .before .before .before .before .before .before .before .before .before .before .before .before .read-str .ensures) (then-in _ _ _ _ _ _ (c .before .before .before .before .before .before .before .before .before .before .before .before .before .before .before .before .before .before .read-str2 .ensures) (then-in _ _ _ _ _ _ (c .before .before .before .before .before .before .before .before .before .before .before .before .before .before .read-str3 .ensures) (then-in _ _ _ _ _ _ (c .before .before .before .before .before .before .before .before .before .before .read-str4 .ensures) (then-in _ _ _ _ _ _ (c .before .before .before .before .before .before .read-pg-extern-argument-list .ensures) (c .before .before .read-pg-extern-return .ensures)))))
 
 pub read-function-signature-spec : {M : Type 1} → statement M
 read-function-signature-spec =

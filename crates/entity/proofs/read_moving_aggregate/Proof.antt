@@ -1,7 +1,7 @@
 -- The parts, one after the other.
 use mathlib.Core.Path.{_∙_}
 use Rattle.entity.specs.Private.{MovingAggregate}
-use Rattle.leaf.specs.Run.{run}
+use Rattle.leaf.proofs.Forms.{then-in}
 use Rattle.entity.proofs.read_moving_aggregate.Statement.{statement}
 use Rattle.entity.proofs.read_moving_aggregate.Tie as tie
 
@@ -27,8 +27,8 @@ same-length : tie.Need-same-length
 same-length c = c .before .before .read-option-str4 .kept .1 .1 .0 ∙ c .before .before .before .before .before .before .read-option-finalize-modify .kept .1 .1 .0 ∙ c .before .before .before .before .before .before .before .before .before .before .read-option-str3 .kept .1 .1 .0 ∙ c .before .before .before .before .before .before .before .before .before .before .before .before .before .before .read-option-used-type .kept .1 .1 .0 ∙ c .before .before .before .before .before .before .before .before .before .before .before .before .before .before .before .before .before .before .read-option-str2 .kept .1 .1 .0 ∙ c .before .before .before .before .before .before .before .before .before .before .before .before .before .before .before .before .before .before .before .before .before .before .read-option-str .kept .1 .1 .0
 
 returns : tie.Need-returns
-unfolding run MovingAggregate
-returns c = cc (c .before .before .before .before .before .before .before .before .before .before .before .before .before .before .before .before .before .before .before .before .before .before .read-option-str .ensures, c .before .before .before .before .before .before .before .before .before .before .before .before .before .before .before .before .before .before .read-option-str2 .ensures, c .before .before .before .before .before .before .before .before .before .before .before .before .before .before .read-option-used-type .ensures, c .before .before .before .before .before .before .before .before .before .before .read-option-str3 .ensures, c .before .before .before .before .before .before .read-option-finalize-modify .ensures, c .before .before .read-option-str4 .ensures)
+unfolding MovingAggregate
+returns c = then-in _ _ _ _ _ _ (c .before .before .before .before .before .before .before .before .before .before .before .before .before .before .before .before .before .before .before .before .before .before .read-option-str .ensures) (then-in _ _ _ _ _ _ (c .before .before .before .before .before .before .before .before .before .before .before .before .before .before .before .before .before .before .read-option-str2 .ensures) (then-in _ _ _ _ _ _ (c .before .before .before .before .before .before .before .before .before .before .before .before .before .before .read-option-used-type .ensures) (then-in _ _ _ _ _ _ (c .before .before .before .before .before .before .before .before .before .before .read-option-str3 .ensures) (then-in _ _ _ _ _ _ (c .before .before .before .before .before .before .read-option-finalize-modify .ensures) (c .before .before .read-option-str4 .ensures)))))
 
 pub read-moving-aggregate-spec : {M : Type 1} → statement M
 read-moving-aggregate-spec =

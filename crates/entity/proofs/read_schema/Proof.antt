@@ -1,7 +1,7 @@
 -- The parts, one after the other.
 use mathlib.Core.Path.{_∙_}
 use Rattle.layout.specs.Entities.{Schema}
-use Rattle.leaf.specs.Run.{run}
+use Rattle.leaf.proofs.Forms.{then-in}
 use Rattle.entity.proofs.read_schema.Statement.{statement}
 use Rattle.entity.proofs.read_schema.Tie as tie
 
@@ -21,8 +21,8 @@ same-length : tie.Need-same-length
 same-length c = c .before .before .read-u32 .kept .1 .1 .0 ∙ c .before .before .before .before .before .before .read-str3 .kept .1 .1 .0 ∙ c .before .before .before .before .before .before .before .before .before .before .read-str2 .kept .1 .1 .0 ∙ c .before .before .before .before .before .before .before .before .before .before .before .before .before .before .read-str .kept .1 .1 .0
 
 returns : tie.Need-returns
-unfolding run Schema
-returns c = cc
+unfolding Schema
+returns c = then-in _ _ _ _ _ _ (c .before .before .before .before .before .before .before .before .before .before .before .before .before .before .read-str .ensures) (then-in _ _ _ _ _ _ (c .before .before .before .before .before .before .before .before .before .before .read-str2 .ensures) (then-in _ _ _ _ _ _ (c .before .before .before .before .before .before .read-str3 .ensures) (c .before .before .read-u32 .ensures)))
 
 pub read-schema-spec : {M : Type 1} → statement M
 read-schema-spec =

@@ -1,7 +1,7 @@
 -- The parts, one after the other.
 use mathlib.Core.Path.{_∙_}
 use Rattle.entity.specs.Private.{TypePaths}
-use Rattle.leaf.specs.Run.{run}
+use Rattle.leaf.proofs.Forms.{then-in}
 use Rattle.entity.proofs.read_type_paths.Statement.{statement}
 use Rattle.entity.proofs.read_type_paths.Tie as tie
 
@@ -18,8 +18,8 @@ same-length : tie.Need-same-length
 same-length c = c .before .before .read-str3 .kept .1 .1 .0 ∙ c .before .before .before .before .before .before .read-str2 .kept .1 .1 .0 ∙ c .before .before .before .before .before .before .before .before .before .before .read-str .kept .1 .1 .0
 
 returns : tie.Need-returns
-unfolding run TypePaths
-returns c = cc
+unfolding TypePaths
+returns c = then-in _ _ _ _ _ _ (c .before .before .before .before .before .before .before .before .before .before .read-str .ensures) (then-in _ _ _ _ _ _ (c .before .before .before .before .before .before .read-str2 .ensures) (c .before .before .read-str3 .ensures))
 
 pub read-type-paths-spec : {M : Type 1} → statement M
 read-type-paths-spec =

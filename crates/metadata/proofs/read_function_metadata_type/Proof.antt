@@ -1,7 +1,7 @@
 -- The parts, one after the other.
 use mathlib.Core.Path.{_∙_}
 use Rattle.layout.specs.Entities.{FunctionMetadataType}
-use Rattle.leaf.specs.Run.{run}
+use Rattle.leaf.proofs.Forms.{then-in}
 use Rattle.metadata.proofs.read_function_metadata_type.Statement.{statement}
 use Rattle.metadata.proofs.read_function_metadata_type.Tie as tie
 
@@ -18,8 +18,8 @@ same-length : tie.Need-same-length
 same-length c = c .before .before .read-return-sql .kept .1 .1 .0 ∙ c .before .before .before .before .before .before .read-argument-sql .kept .1 .1 .0 ∙ c .before .before .before .before .before .before .before .before .before .before .read-option-resolution .kept .1 .1 .0
 
 returns : tie.Need-returns
-unfolding run FunctionMetadataType
-returns c = cc
+unfolding FunctionMetadataType
+returns c = then-in _ _ _ _ _ _ (c .before .before .before .before .before .before .before .before .before .before .read-option-resolution .ensures) (then-in _ _ _ _ _ _ (c .before .before .before .before .before .before .read-argument-sql .ensures) (c .before .before .read-return-sql .ensures))
 
 pub read-function-metadata-type-spec : {M : Type 1} → statement M
 read-function-metadata-type-spec =

@@ -1,7 +1,7 @@
 -- The parts, one after the other.
 use mathlib.Core.Path.{_∙_}
 use Rattle.layout.specs.Entities.{Numeric}
-use Rattle.leaf.specs.Run.{run}
+use Rattle.leaf.proofs.Forms.{then-in}
 use Rattle.metadata.proofs.read_numeric.Statement.{statement}
 use Rattle.metadata.proofs.read_numeric.Tie as tie
 
@@ -21,8 +21,8 @@ same-length : tie.Need-same-length
 same-length c = c .before .before .read-u322 .kept .1 .1 .0 ∙ c .before .before .before .before .before .before .read-bool2 .kept .1 .1 .0 ∙ c .before .before .before .before .before .before .before .before .before .before .read-u32 .kept .1 .1 .0 ∙ c .before .before .before .before .before .before .before .before .before .before .before .before .before .before .read-bool .kept .1 .1 .0
 
 returns : tie.Need-returns
-unfolding run Numeric
-returns c = cc
+unfolding Numeric
+returns c = then-in _ _ _ _ _ _ (c .before .before .before .before .before .before .before .before .before .before .before .before .before .before .read-bool .ensures) (then-in _ _ _ _ _ _ (c .before .before .before .before .before .before .before .before .before .before .read-u32 .ensures) (then-in _ _ _ _ _ _ (c .before .before .before .before .before .before .read-bool2 .ensures) (c .before .before .read-u322 .ensures)))
 
 pub read-numeric-spec : {M : Type 1} → statement M
 read-numeric-spec =

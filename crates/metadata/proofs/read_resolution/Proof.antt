@@ -1,7 +1,7 @@
 -- The parts, one after the other.
 use mathlib.Core.Path.{_∙_}
 use Rattle.layout.specs.Entities.{Resolution}
-use Rattle.leaf.specs.Run.{run}
+use Rattle.leaf.proofs.Forms.{then-in}
 use Rattle.metadata.proofs.read_resolution.Statement.{statement}
 use Rattle.metadata.proofs.read_resolution.Tie as tie
 
@@ -15,8 +15,8 @@ same-length : tie.Need-same-length
 same-length c = c .before .before .read-type-origin .kept .1 .1 .0 ∙ c .before .before .before .before .before .before .read-str .kept .1 .1 .0
 
 returns : tie.Need-returns
-unfolding run Resolution
-returns c = cc
+unfolding Resolution
+returns c = then-in _ _ _ _ _ _ (c .before .before .before .before .before .before .read-str .ensures) (c .before .before .read-type-origin .ensures)
 
 pub read-resolution-spec : {M : Type 1} → statement M
 read-resolution-spec =

@@ -1,7 +1,7 @@
 -- The parts, one after the other.
 use mathlib.Core.Path.{_∙_}
 use Rattle.layout.specs.Entities.{AggregateType}
-use Rattle.leaf.specs.Run.{run}
+use Rattle.leaf.proofs.Forms.{then-in}
 use Rattle.used.proofs.read_aggregate_type.Statement.{statement}
 use Rattle.used.proofs.read_aggregate_type.Tie as tie
 
@@ -15,8 +15,8 @@ same-length : tie.Need-same-length
 same-length c = c .before .before .read-used-type .kept .1 .1 .0 ∙ c .before .before .before .before .before .before .read-option-str .kept .1 .1 .0
 
 returns : tie.Need-returns
-unfolding run AggregateType
-returns c = cc
+unfolding AggregateType
+returns c = then-in _ _ _ _ _ _ (c .before .before .before .before .before .before .read-option-str .ensures) (c .before .before .read-used-type .ensures)
 
 pub read-aggregate-type-spec : {M : Type 1} → statement M
 read-aggregate-type-spec =

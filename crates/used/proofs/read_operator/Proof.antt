@@ -1,7 +1,7 @@
 -- The parts, one after the other.
 use mathlib.Core.Path.{_∙_}
 use Rattle.layout.specs.Entities.{Operator}
-use Rattle.leaf.specs.Run.{run}
+use Rattle.leaf.proofs.Forms.{then-in}
 use Rattle.used.proofs.read_operator.Statement.{statement}
 use Rattle.used.proofs.read_operator.Tie as tie
 
@@ -30,8 +30,8 @@ same-length : tie.Need-same-length
 same-length c = c .before .before .read-bool2 .kept .1 .1 .0 ∙ c .before .before .before .before .before .before .read-bool .kept .1 .1 .0 ∙ c .before .before .before .before .before .before .before .before .before .before .read-option-str5 .kept .1 .1 .0 ∙ c .before .before .before .before .before .before .before .before .before .before .before .before .before .before .read-option-str4 .kept .1 .1 .0 ∙ c .before .before .before .before .before .before .before .before .before .before .before .before .before .before .before .before .before .before .read-option-str3 .kept .1 .1 .0 ∙ c .before .before .before .before .before .before .before .before .before .before .before .before .before .before .before .before .before .before .before .before .before .before .read-option-str2 .kept .1 .1 .0 ∙ c .before .before .before .before .before .before .before .before .before .before .before .before .before .before .before .before .before .before .before .before .before .before .before .before .before .before .read-option-str .kept .1 .1 .0
 
 returns : tie.Need-returns
-unfolding run Operator
-returns c = cc (c .before .before .before .before .before .before .before .before .before .before .before .before .before .before .before .before .before .before .before .before .before .before .before .before .before .before .read-option-str .ensures, c .before .before .before .before .before .before .before .before .before .before .before .before .before .before .before .before .before .before .before .before .before .before .read-option-str2 .ensures, c .before .before .before .before .before .before .before .before .before .before .before .before .before .before .before .before .before .before .read-option-str3 .ensures, c .before .before .before .before .before .before .before .before .before .before .before .before .before .before .read-option-str4 .ensures, c .before .before .before .before .before .before .before .before .before .before .read-option-str5 .ensures, c .before .before .before .before .before .before .read-bool .ensures, c .before .before .read-bool2 .ensures)
+unfolding Operator
+returns c = then-in _ _ _ _ _ _ (c .before .before .before .before .before .before .before .before .before .before .before .before .before .before .before .before .before .before .before .before .before .before .before .before .before .before .read-option-str .ensures) (then-in _ _ _ _ _ _ (c .before .before .before .before .before .before .before .before .before .before .before .before .before .before .before .before .before .before .before .before .before .before .read-option-str2 .ensures) (then-in _ _ _ _ _ _ (c .before .before .before .before .before .before .before .before .before .before .before .before .before .before .before .before .before .before .read-option-str3 .ensures) (then-in _ _ _ _ _ _ (c .before .before .before .before .before .before .before .before .before .before .before .before .before .before .read-option-str4 .ensures) (then-in _ _ _ _ _ _ (c .before .before .before .before .before .before .before .before .before .before .read-option-str5 .ensures) (then-in _ _ _ _ _ _ (c .before .before .before .before .before .before .read-bool .ensures) (c .before .before .read-bool2 .ensures))))))
 
 pub read-operator-spec : {M : Type 1} → statement M
 read-operator-spec =

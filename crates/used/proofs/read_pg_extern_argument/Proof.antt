@@ -1,7 +1,7 @@
 -- The parts, one after the other.
 use mathlib.Core.Path.{_∙_}
 use Rattle.layout.specs.Entities.{PgExternArgument}
-use Rattle.leaf.specs.Run.{run}
+use Rattle.leaf.proofs.Forms.{then-in}
 use Rattle.used.proofs.read_pg_extern_argument.Statement.{statement}
 use Rattle.used.proofs.read_pg_extern_argument.Tie as tie
 
@@ -15,8 +15,8 @@ same-length : tie.Need-same-length
 same-length c = c .before .before .read-used-type .kept .1 .1 .0 ∙ c .before .before .before .before .before .before .read-str .kept .1 .1 .0
 
 returns : tie.Need-returns
-unfolding run PgExternArgument
-returns c = cc
+unfolding PgExternArgument
+returns c = then-in _ _ _ _ _ _ (c .before .before .before .before .before .before .read-str .ensures) (c .before .before .read-used-type .ensures)
 
 pub read-pg-extern-argument-spec : {M : Type 1} → statement M
 read-pg-extern-argument-spec =

@@ -1,7 +1,7 @@
 -- The parts, one after the other.
 use mathlib.Core.Path.{_∙_}
 use Rattle.layout.specs.Entities.{ToSqlConfig}
-use Rattle.leaf.specs.Run.{run}
+use Rattle.leaf.proofs.Forms.{then-in}
 use Rattle.used.proofs.read_to_sql_config.Statement.{statement}
 use Rattle.used.proofs.read_to_sql_config.Tie as tie
 
@@ -15,8 +15,8 @@ same-length : tie.Need-same-length
 same-length c = c .before .before .read-option-str .kept .1 .1 .0 ∙ c .before .before .before .before .before .before .read-bool .kept .1 .1 .0
 
 returns : tie.Need-returns
-unfolding run ToSqlConfig
-returns c = cc
+unfolding ToSqlConfig
+returns c = then-in _ _ _ _ _ _ (c .before .before .before .before .before .before .read-bool .ensures) (c .before .before .read-option-str .ensures)
 
 pub read-to-sql-config-spec : {M : Type 1} → statement M
 read-to-sql-config-spec =

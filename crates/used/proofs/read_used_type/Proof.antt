@@ -1,7 +1,7 @@
 -- The parts, one after the other.
 use mathlib.Core.Path.{_∙_}
 use Rattle.layout.specs.Entities.{UsedType}
-use Rattle.leaf.specs.Run.{run}
+use Rattle.leaf.proofs.Forms.{then-in}
 use Rattle.used.proofs.read_used_type.Statement.{statement}
 use Rattle.used.proofs.read_used_type.Tie as tie
 
@@ -30,8 +30,8 @@ same-length : tie.Need-same-length
 same-length c = c .before .before .read-function-metadata-type .kept .1 .1 .0 ∙ c .before .before .before .before .before .before .read-bool2 .kept .1 .1 .0 ∙ c .before .before .before .before .before .before .before .before .before .before .read-option-str2 .kept .1 .1 .0 ∙ c .before .before .before .before .before .before .before .before .before .before .before .before .before .before .read-bool .kept .1 .1 .0 ∙ c .before .before .before .before .before .before .before .before .before .before .before .before .before .before .before .before .before .before .read-option-str .kept .1 .1 .0 ∙ c .before .before .before .before .before .before .before .before .before .before .before .before .before .before .before .before .before .before .before .before .before .before .read-str2 .kept .1 .1 .0 ∙ c .before .before .before .before .before .before .before .before .before .before .before .before .before .before .before .before .before .before .before .before .before .before .before .before .before .before .read-str .kept .1 .1 .0
 
 returns : tie.Need-returns
-unfolding run UsedType
-returns c = cc (c .before .before .before .before .before .before .before .before .before .before .before .before .before .before .before .before .before .before .before .before .before .before .before .before .before .before .read-str .ensures, c .before .before .before .before .before .before .before .before .before .before .before .before .before .before .before .before .before .before .before .before .before .before .read-str2 .ensures, c .before .before .before .before .before .before .before .before .before .before .before .before .before .before .before .before .before .before .read-option-str .ensures, c .before .before .before .before .before .before .before .before .before .before .before .before .before .before .read-bool .ensures, c .before .before .before .before .before .before .before .before .before .before .read-option-str2 .ensures, c .before .before .before .before .before .before .read-bool2 .ensures, c .before .before .read-function-metadata-type .ensures)
+unfolding UsedType
+returns c = then-in _ _ _ _ _ _ (c .before .before .before .before .before .before .before .before .before .before .before .before .before .before .before .before .before .before .before .before .before .before .before .before .before .before .read-str .ensures) (then-in _ _ _ _ _ _ (c .before .before .before .before .before .before .before .before .before .before .before .before .before .before .before .before .before .before .before .before .before .before .read-str2 .ensures) (then-in _ _ _ _ _ _ (c .before .before .before .before .before .before .before .before .before .before .before .before .before .before .before .before .before .before .read-option-str .ensures) (then-in _ _ _ _ _ _ (c .before .before .before .before .before .before .before .before .before .before .before .before .before .before .read-bool .ensures) (then-in _ _ _ _ _ _ (c .before .before .before .before .before .before .before .before .before .before .read-option-str2 .ensures) (then-in _ _ _ _ _ _ (c .before .before .before .before .before .before .read-bool2 .ensures) (c .before .before .read-function-metadata-type .ensures))))))
 
 pub read-used-type-spec : {M : Type 1} → statement M
 read-used-type-spec =

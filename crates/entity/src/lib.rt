@@ -2,7 +2,7 @@
 use leaf::Answer;
 use leaf::Cursor;
 ghost use mathlib.Core.Path.{_≡_};
-ghost use Rattle.layout.specs.Entities.{SqlDeclared, SqlDeclaredList, DeclaredType, DeclaredSql, FinalizeModify, OptionFinalizeModify};
+ghost use Rattle.layout.specs.Entities.{FinalizeModify, OptionFinalizeModify};
 ghost use Rattle.layout.specs.Entities.{ParallelOption, OptionParallelOption, OptionUsedType, OptionAggregateTypeList};
 ghost use Rattle.layout.specs.Entities.{Entity, Schema, CustomSql, Function, PostgresType, PostgresEnum, OrdOrHash, Aggregate, Trigger};
 ghost use Rattle.layout.specs.Alone.{readingAlone, ExactAlone};
@@ -11,67 +11,6 @@ ghost use Rattle.leaf.specs.Run.{run};
 ghost use Rattle.leaf.specs.Finish.{resultOf};
 ghost use Rattle.entity.specs.Private.{NameFileLine, TypePaths, CustomSqlText, FunctionSignature, FunctionOrigin, FunctionOptions};
 ghost use Rattle.entity.specs.Private.{TypeFunctions, AggregateName, AggregateTypes, AggregateFunctions, MovingAggregate, AggregateOptions};
-
-// A declaration: its kind is judged only after its name.
-pub fn read_sql_declared(c: Cursor, s: &[u8], t: &mut [u32]) -> Cursor
-    ensures { λ r. ⌜ state r (now (t .exit)) ≡ run SqlDeclared (now (s .entry)) (state c (now (t .entry))) ⌝ }
-{
-    let place = c.at;
-    let c = c.read_u8(s, t);
-    let kind = c.value;
-    let c = c.read_str(s, t); // name
-    match kind {
-        layout::SQL_DECLARED_TYPE => read_declared_type(c, s, t),
-        layout::SQL_DECLARED_ENUM => read_declared_type(c, s, t),
-        layout::SQL_DECLARED_FUNCTION => c,
-        _ => c.refused(9, place),
-    }
-}
-
-pub fn read_declared_type(c: Cursor, s: &[u8], t: &mut [u32]) -> Cursor
-    ensures { λ r. ⌜ state r (now (t .exit)) ≡ run DeclaredType (now (s .entry)) (state c (now (t .entry))) ⌝ }
-{
-    let c = c.read_str(s, t); // type_ident
-    read_declared_sql(c, s, t) // sql
-}
-
-// The result of a declaration: it is read whole, and then it must be a mapping As or Numeric.
-pub fn read_declared_sql(c: Cursor, s: &[u8], t: &mut [u32]) -> Cursor
-    ensures { λ r. ⌜ state r (now (t .exit)) ≡ run DeclaredSql (now (s .entry)) (state c (now (t .entry))) ⌝ }
-{
-    let at = c.at;
-    let c = metadata::read_argument_sql(c, s, t);
-    if c.refusal != 0 {
-        return c;
-    }
-    let result = wide(s[at]);
-    if result != layout::RESULT_OK {
-        return c.refused(11, at);
-    }
-    let tag = at + 1;
-    let mapping = wide(s[tag]);
-    match mapping {
-        layout::SQL_MAPPING_AS => c,
-        layout::SQL_MAPPING_NUMERIC => c,
-        _ => c.refused(10, at),
-    }
-}
-
-pub fn read_sql_declared_list(c: Cursor, s: &[u8], t: &mut [u32]) -> Cursor
-    ensures { λ r. ⌜ state r (now (t .exit)) ≡ run SqlDeclaredList (now (s .entry)) (state c (now (t .entry))) ⌝ }
-{
-    let mut c = c.read_count(s, t);
-    let count = c.value;
-    let mut i: usize = 0;
-    while i < count {
-        if c.refusal != 0 {
-            return c;
-        }
-        c = read_sql_declared(c, s, t);
-        i += 1;
-    }
-    c
-}
 
 pub fn read_finalize_modify(c: Cursor, s: &[u8], t: &mut [u32]) -> Cursor
     ensures { λ r. ⌜ state r (now (t .exit)) ≡ run FinalizeModify (now (s .entry)) (state c (now (t .entry))) ⌝ }
@@ -173,8 +112,8 @@ pub fn read_custom_sql(c: Cursor, s: &[u8], t: &mut [u32]) -> Cursor
     let c = read_custom_sql_text(c, s, t);
     let c = c.read_bool(s, t); // bootstrap
     let c = c.read_bool(s, t); // finalize
-    let c = used::read_positioning_ref_list(c, s, t); // requires
-    read_sql_declared_list(c, s, t) // creates
+    let c = attribute::read_positioning_ref_list(c, s, t); // requires
+    declared::read_sql_declared_list(c, s, t) // creates
 }
 
 fn read_custom_sql_text(c: Cursor, s: &[u8], t: &mut [u32]) -> Cursor
@@ -194,7 +133,7 @@ pub fn read_function(c: Cursor, s: &[u8], t: &mut [u32]) -> Cursor
     let c = read_function_signature(c, s, t);
     let c = read_function_origin(c, s, t);
     let c = read_function_options(c, s, t);
-    used::read_to_sql_config(c, s, t) // to_sql_config
+    attribute::read_to_sql_config(c, s, t) // to_sql_config
 }
 
 fn read_function_signature(c: Cursor, s: &[u8], t: &mut [u32]) -> Cursor
@@ -219,10 +158,10 @@ fn read_function_origin(c: Cursor, s: &[u8], t: &mut [u32]) -> Cursor
 fn read_function_options(c: Cursor, s: &[u8], t: &mut [u32]) -> Cursor
     ensures { λ r. ⌜ state r (now (t .exit)) ≡ run FunctionOptions (now (s .entry)) (state c (now (t .entry))) ⌝ }
 {
-    let c = used::read_extern_arg_list(c, s, t); // extern_attrs
-    let c = used::read_search_path(c, s, t); // search_path
-    let c = used::read_option_operator(c, s, t); // operator
-    used::read_option_cast(c, s, t) // cast
+    let c = attribute::read_extern_arg_list(c, s, t); // extern_attrs
+    let c = attribute::read_search_path(c, s, t); // search_path
+    let c = attribute::read_option_operator(c, s, t); // operator
+    attribute::read_option_cast(c, s, t) // cast
 }
 
 pub fn read_type(c: Cursor, s: &[u8], t: &mut [u32]) -> Cursor
@@ -231,7 +170,7 @@ pub fn read_type(c: Cursor, s: &[u8], t: &mut [u32]) -> Cursor
     let c = read_name_file_line(c, s, t);
     let c = read_type_paths(c, s, t);
     let c = read_type_functions(c, s, t);
-    let c = used::read_to_sql_config(c, s, t); // to_sql_config
+    let c = attribute::read_to_sql_config(c, s, t); // to_sql_config
     c.read_option_u32(s, t) // alignment
 }
 
@@ -265,8 +204,8 @@ pub fn read_enum(c: Cursor, s: &[u8], t: &mut [u32]) -> Cursor
 {
     let c = read_name_file_line(c, s, t);
     let c = read_type_paths(c, s, t);
-    let c = used::read_str_list(c, s, t); // variants
-    used::read_to_sql_config(c, s, t) // to_sql_config
+    let c = attribute::read_str_list(c, s, t); // variants
+    attribute::read_to_sql_config(c, s, t) // to_sql_config
 }
 
 pub fn read_ord_or_hash(c: Cursor, s: &[u8], t: &mut [u32]) -> Cursor
@@ -276,7 +215,7 @@ pub fn read_ord_or_hash(c: Cursor, s: &[u8], t: &mut [u32]) -> Cursor
     let c = c.read_str(s, t); // full_path
     let c = c.read_str(s, t); // module_path
     let c = c.read_str(s, t); // type_ident
-    used::read_to_sql_config(c, s, t) // to_sql_config
+    attribute::read_to_sql_config(c, s, t) // to_sql_config
 }
 
 pub fn read_aggregate(c: Cursor, s: &[u8], t: &mut [u32]) -> Cursor
@@ -287,7 +226,7 @@ pub fn read_aggregate(c: Cursor, s: &[u8], t: &mut [u32]) -> Cursor
     let c = read_aggregate_functions(c, s, t);
     let c = read_moving_aggregate(c, s, t);
     let c = read_aggregate_options(c, s, t);
-    used::read_to_sql_config(c, s, t) // to_sql_config
+    attribute::read_to_sql_config(c, s, t) // to_sql_config
 }
 
 fn read_aggregate_name(c: Cursor, s: &[u8], t: &mut [u32]) -> Cursor
@@ -346,7 +285,7 @@ pub fn read_trigger(c: Cursor, s: &[u8], t: &mut [u32]) -> Cursor
     let c = read_name_file_line(c, s, t);
     let c = c.read_str(s, t); // module_path
     let c = c.read_str(s, t); // full_path
-    used::read_to_sql_config(c, s, t) // to_sql_config
+    attribute::read_to_sql_config(c, s, t) // to_sql_config
 }
 
 // One payload alone: one entity, and nothing after it.
@@ -356,10 +295,4 @@ pub fn decode_entity(payload: &[u8], t: &mut [u32]) -> Answer
 {
     let c = read_entity(Cursor::new(), payload, t);
     c.finish(payload, t, 1)
-}
-
-fn wide(x: u8) -> usize
-    ensures { λ r. ⌜ r ≡ x ⌝ }
-{
-    x as usize
 }

@@ -1,0 +1,70 @@
+-- i items are read; the others are still to come.
+use Prim.Native.Nat.{_-_}
+use native.Mathlib.Nat.{sub-zero}
+use native.Mathlib.Omega.{arith}
+use mathlib.Core.Path.{_≡_, refl}
+use lib.ListN.{length}
+use borrow.Author.Needs.{needs}
+use Rattle.leaf.proofs.Forms.{list-in, loop-on, loop-end, loop-refused}
+use Rattle.leaf.specs.Run.{run}
+use Rattle.leaf.specs.State.{state}
+use Rattle.layout.specs.Layout.{text}
+use Rattle.layout.specs.Entities.{StrList}
+use Rattle.layout.specs.Forms.{times}
+use Rattle.attribute.proofs.read_str_list.Statement.{statement}
+use Rattle.attribute.proofs.read_str_list.Tie as tie
+
+abbrev Inv-loop : tie.InvT-loop
+Inv-loop s t₀ c₀ count i₀ t c i = (length t ≡ length t₀) × (run (times count text) s (state c₀ t₀) ≡ run (times (count - i) text) s (state c t))
+
+abbrev μ-loop : tie.MeasureT-loop
+μ-loop s t₀ c₀ count i₀ t c i = count - i
+
+read-count-requires : tie.Need-read-count-requires Inv-loop μ-loop
+read-count-requires c κs = tt
+
+loop-holds : tie.Need-loop-holds Inv-loop μ-loop
+loop-holds c = (refl, simp sub-zero)
+
+same-length : tie.Need-same-length Inv-loop μ-loop
+same-length c = search (needs, c .before .before .before .loop .inv .0)
+
+returns : tie.Need-returns Inv-loop μ-loop
+unfolding StrList
+returns c = list-in _ _ _ _ _ (c .before .before .before .before .before .before .read-count .ensures) (loop-refused _ _ _ _ (c .before .before .before .loop .inv .1) (c .if1 .taken))
+
+read-str-requires : tie.Need-read-str-requires Inv-loop μ-loop
+read-str-requires c κs = tt
+
+add-i : tie.Need-add-i Inv-loop μ-loop
+add-i c = omega arith
+
+loop-less : tie.Need-loop-less Inv-loop μ-loop
+loop-less c = omega arith
+
+loop-again : tie.Need-loop-again Inv-loop μ-loop
+loop-again c = (search (needs, c .before .before .before .before .before .before .before .loop .inv .0), loop-on _ _ text _ _ _ _ (c .before .before .before .before .before .before .before .loop .inv .1) (c .before .before .before .before .before .before .loop-test .taken) (c .before .before .read-str .ensures))
+
+same-length-2 : tie.Need-same-length-2 Inv-loop μ-loop
+same-length-2 c = search needs
+
+returns-2 : tie.Need-returns-2 Inv-loop μ-loop
+unfolding StrList
+returns-2 c = list-in _ _ _ _ _ (c .before .before .before .before .read-count .ensures) (loop-end _ _ text _ _ _ (c .before .loop .inv .1) (c .loop-test .left))
+
+pub read-str-list-spec : {M : Type 1} → statement M
+read-str-list-spec =
+    tie.close
+    (tie.spec
+    Inv-loop
+    μ-loop
+    read-count-requires
+    loop-holds
+    same-length
+    returns
+    read-str-requires
+    add-i
+    loop-less
+    loop-again
+    same-length-2
+    returns-2)

@@ -1,0 +1,70 @@
+-- Each known kind, and the rest, after the name.
+use native.Mathlib.Omega.{arith}
+use mathlib.Core.Path.{refl}
+use borrow.Author.Needs.{needs}
+use Rattle.leaf.proofs.Forms.{after-in, after-wrong, run-nothing}
+use Rattle.layout.specs.Entities.{SqlDeclared, sqlDeclareds}
+use Rattle.layout.specs.Layout.{text}
+use Rattle.declared.proofs.read_sql_declared.Statement.{statement}
+use Rattle.declared.proofs.read_sql_declared.Tie as tie
+
+read-u8-requires : tie.Need-read-u8-requires
+read-u8-requires c κs = tt
+
+read-str-requires : tie.Need-read-str-requires
+read-str-requires c κs = tt
+
+read-declared-type-requires : tie.Need-read-declared-type-requires
+read-declared-type-requires c κs = tt
+
+read-declared-type-requires-2 : tie.Need-read-declared-type-requires-2
+read-declared-type-requires-2 c κs = tt
+
+refused-requires : tie.Need-refused-requires
+refused-requires c κs = tt
+
+same-length : tie.Need-same-length
+same-length c = search needs
+
+returns : tie.Need-returns
+unfolding SqlDeclared
+returns c = after-in text sqlDeclareds 1 _ _ _ _ _ (c .before .before .before .before .before .before .before .before .before .before .before .read-u8 .ensures) (c .before .before .before .before .before .before .before .read-str .ensures) (c .before .before .before .before .match .keys1) refl (c .before .before .read-declared-type .ensures)
+
+same-length-2 : tie.Need-same-length-2
+same-length-2 c = search needs
+
+returns-2 : tie.Need-returns-2
+unfolding SqlDeclared
+returns-2 c = after-in text sqlDeclareds 2 _ _ _ _ _ (c .before .before .before .before .before .before .before .before .before .before .before .read-u8 .ensures) (c .before .before .before .before .before .before .before .read-str .ensures) (c .before .before .before .before .match .keys2) refl (c .before .before .read-declared-type2 .ensures)
+
+same-length-3 : tie.Need-same-length-3
+same-length-3 c = search needs
+
+returns-3 : tie.Need-returns-3
+unfolding SqlDeclared
+returns-3 c = after-in text sqlDeclareds 3 _ _ _ _ _ (c .before .before .before .before .before .before .before .read-u8 .ensures) (c .before .before .before .read-str .ensures) (c .match .keys3) refl (run-nothing _ _)
+
+same-length-4 : tie.Need-same-length-4
+same-length-4 c = search needs
+
+returns-4 : tie.Need-returns-4
+unfolding SqlDeclared
+returns-4 c = after-wrong text sqlDeclareds _ _ _ _ _ (c .before .before .before .before .before .before .before .before .read-u8 .ensures) (c .before .before .before .before .read-str .ensures) (omega arith) (rw (c .refused .ensures))
+
+pub read-sql-declared-spec : {M : Type 1} → statement M
+read-sql-declared-spec =
+    tie.close
+    (tie.spec
+    read-u8-requires
+    read-str-requires
+    read-declared-type-requires
+    read-declared-type-requires-2
+    refused-requires
+    same-length
+    returns
+    same-length-2
+    returns-2
+    same-length-3
+    returns-3
+    same-length-4
+    returns-4)

@@ -58,16 +58,16 @@ run-length (case srt A j B) s st =
 run-length (check A j) s st = pass-length (verdictOn j (read A s (st .cursor .at))) (st .cursor .at) (run A s st) ∙ run-length A s st
 
 -- Refusals of tables of one length are the same
-refusal-same : (n p : ℕ) (t u : List ℕ) → length t ≡ length u → refusal n p t ≡ refusal n p u
+pub refusal-same : (n p : ℕ) (t u : List ℕ) → length t ≡ length u → refusal n p t ≡ refusal n p u
 refusal-same n p t u e = rw e
 
 module _ (entities : ℕ) (s : List ℕ) (st : State) where
-  finished-long : limit < length s → finished entities s st ≡ refusal 1 0 (st .table)
+  pub finished-long : limit < length s → finished entities s st ≡ refusal 1 0 (st .table)
   unfolding finished
   finished-long h = rw (lt-leb (length s) limit h)
 
   module _ (small : length s ≤ limit) where
-    finished-refused : Refused st → finished entities s st ≡ refusal (st .cursor .refusal) (st .cursor .place) (st .table)
+    pub finished-refused : Refused st → finished entities s st ≡ refusal (st .cursor .refusal) (st .cursor .place) (st .table)
     unfolding finished
     finished-refused h = rw (le-leb (length s) limit small, ne-eqb _ _ h)
 
@@ -77,11 +77,11 @@ module _ (entities : ℕ) (s : List ℕ) (st : State) where
       finished-trailing h = rw (le-leb (length s) limit small, eq-eqb _ _ z, lt-leb (length s) (st .cursor .at) h)
 
       module _ (h : length s ≤ st .cursor .at) where
-        finished-short : st .cursor .short ≡ true → finished entities s st ≡ refusal 13 0 (st .table)
+        pub finished-short : st .cursor .short ≡ true → finished entities s st ≡ refusal 13 0 (st .table)
         unfolding finished
         finished-short e = rw (le-leb (length s) limit small, eq-eqb _ _ z, le-leb (length s) (st .cursor .at) h, e)
 
-        finished-whole : st .cursor .short ≡ false → st .cursor .rows ≤ wholeRows (st .table)
+        pub finished-whole : st .cursor .short ≡ false → st .cursor .rows ≤ wholeRows (st .table)
             → finished entities s st ≡ acceptance (record { entities = entities; leaves = st .cursor .rows; rows = take (rowWidth * st .cursor .rows) (st .table) }) (st .table)
         unfolding finished
         finished-whole e k = rw (le-leb (length s) limit small, eq-eqb _ _ z, le-leb (length s) (st .cursor .at) h, e, le-ltb (wholeRows (st .table)) (st .cursor .rows) k)

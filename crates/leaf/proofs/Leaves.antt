@@ -12,7 +12,7 @@ use Rattle.layout.specs.Written.{sortNumber}
 use Rattle.layout.specs.Reading.{Outcome, ok, refuse, _>>=_, utf8, numberAt, textAt}
 use Rattle.layout.specs.Alone.{limit}
 use Rattle.leaf.specs.declared.Cursor.{Cursor}
-use Rattle.leaf.specs.State.{State, state, stopped, stop, put, arrive, guarded}
+use Rattle.leaf.specs.State.{State, state, lengthAt, stopped, stop, put, arrive, guarded}
 use Rattle.leaf.specs.Private.{land}
 use Rattle.text.specs.Walk as automaton
 
@@ -54,3 +54,13 @@ module _ (s : List ℕ) (st : State) (n : ℕ) (e : n ≡ numberAt s (st .cursor
     text-right u =
         let l : length (take x (drop (at + 4) s)) ≡ x = length-take-le x (drop (at + 4) s) (omega (arith, length-drop (at + 4) s)) in
         rw (le-leb (at + 4) (length s) h, ← e, le-leb (at + 4 + n) (length s) k, ← q, u, l)
+
+-- A length
+module _ (s : List ℕ) (at : ℕ) where
+  pub length-none : length s < at + 4 → lengthAt s at ≡ 0
+  unfolding lengthAt
+  length-none h = rw (lt-leb (at + 4) (length s) h)
+
+  pub length-there : at + 4 ≤ length s → lengthAt s at ≡ numberAt s at
+  unfolding lengthAt
+  length-there h = rw (le-leb (at + 4) (length s) h)

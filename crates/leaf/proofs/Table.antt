@@ -106,7 +106,7 @@ push-short x st h = go (room st)
     go true = h
     go false = refl
 
-stays-short : (ls : List Leaf) (st : State) → st .cursor .short ≡ true → arriveAll ls st .cursor .short ≡ true
+pub stays-short : (ls : List Leaf) (st : State) → st .cursor .short ≡ true → arriveAll ls st .cursor .short ≡ true
 stays-short [] st h = h
 stays-short (x ∷ ls) st h = stays-short ls (push x st) (push-short x st h)
 

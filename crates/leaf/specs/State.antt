@@ -6,7 +6,7 @@ use lib.Dec.{eqb, ltb, leb}
 use lib.ListN.{length, set}
 use Rattle.layout.specs.Layout.{Sort, Leaf, plain, string}
 use Rattle.layout.specs.Written.{rowWidth, leafValue, rowAt}
-use Rattle.layout.specs.Reading.{Outcome, ok, refuse, _>>=_, plainAt, textAt}
+use Rattle.layout.specs.Reading.{Outcome, ok, refuse, _>>=_, enough, numberAt, plainAt, textAt}
 use Rattle.layout.specs.Answers.{wholeRows}
 use Rattle.layout.specs.Alone.{limit}
 use Rattle.leaf.specs.declared.Cursor.{Cursor}
@@ -23,6 +23,14 @@ state c table = record { cursor = c; table = table }
 -- The cursor of a reading that begins
 abbrev pub start : Cursor
 start = record { at = 0; rows = 0; refusal = 0; short = false; place = 0; value = 0 }
+
+-- The cursor at another place
+abbrev pub seek : (at : ℕ) → Cursor → Cursor
+seek at c = record { at = at; rows = c .rows; refusal = c .refusal; short = c .short; place = c .place; value = c .value }
+
+-- The length that begins at a place of s, 0 where fewer than four bytes are left
+unfoldable pub lengthAt : List ℕ → (place : ℕ) → ℕ
+lengthAt s at = cond (enough s at 4) (numberAt s at) 0
 
 -- The cursor, refused
 abbrev pub stopped : (number place : ℕ) → Cursor → Cursor

@@ -7,7 +7,7 @@ ghost use Rattle.layout.specs.Layout.{Kind, Tag, Flag, Number, Count, one, text
 ghost use Rattle.layout.specs.Entities.{OptionStr, OptionU32};
 ghost use Rattle.layout.specs.Reading.{byteAt, fourAt, numberAt};
 ghost use Rattle.layout.specs.Answers.{refusal};
-ghost use Rattle.leaf.specs.State.{state, start, stopped, refusedOnce, put, guarded};
+ghost use Rattle.leaf.specs.State.{state, start, seek, lengthAt, stopped, refusedOnce, put, guarded};
 ghost use Rattle.leaf.specs.Run.{run};
 ghost use Rattle.leaf.specs.Finish.{resultOf, finished};
 ghost use Rattle.leaf.specs.Private.{land, cleared};
@@ -60,6 +60,20 @@ impl Cursor {
             short: false,
             place: 0,
             value: 0,
+        }
+    }
+
+    // The cursor at another place.
+    pub fn seek(self, at: usize) -> Cursor
+        ensures { λ r. ⌜ r ≡ seek at self ⌝ }
+    {
+        Cursor {
+            at,
+            rows: self.rows,
+            refusal: self.refusal,
+            short: self.short,
+            place: self.place,
+            value: self.value,
         }
     }
 
@@ -294,6 +308,19 @@ fn wide(x: u8) -> u32
     ensures { λ r. ⌜ (r ≡ x) × (r < 256) ⌝ }
 {
     x as u32
+}
+
+// The length that begins at a place: its four bytes as a number, or 0 where fewer are left.
+pub fn length_at(s: &[u8], at: usize) -> u32
+    ensures { λ r. ⌜ r ≡ lengthAt (now (s .entry)) at ⌝ }
+{
+    if s.len() < at {
+        return 0;
+    }
+    if s.len() - at < 4 {
+        return 0;
+    }
+    number_at(s, at)
 }
 
 // The four bytes at a place, as a number.

@@ -1,0 +1,104 @@
+-- Derivations of a section: document 01, "The nine entities". Nothing here is taken from the reader.
+use Prim.Native.Nat.{ℕ, _+_, _<_}
+use mathlib.Core.List.{List, [], _∷_, _++_}
+use lib.ListN.{length, replicate}
+use Rattle.layout.specs.Layout.{Kind, Tag, Flag, Number, Count, Leaf, plain, string, Value, leaves, Proper}
+use Rattle.layout.specs.Written.{four, bytes, rowsFrom}
+use Rattle.layout.specs.Entities.{Entity}
+use Rattle.layout.specs.Answers.{Given}
+
+-- An item: the sentinel, or an entity
+pub data Item : Type 0 where
+  sentinel : Item
+  entity : Value Entity → Item
+
+-- A derivation: a list of items, and a number of padding bytes
+pub record Derivation : Type 0 where
+  pub items : List Item
+  pub padding : ℕ
+
+-- The sentinel's payload
+abbrev pub sentinelBytes : List ℕ
+sentinelBytes = 0x00 ∷ 0x04 ∷ 0x00 ∷ 0x00 ∷ 0x00 ∷ 0x70 ∷ 0x67 ∷ 0x72 ∷ 0x78 ∷ []
+
+-- An item's payload
+abbrev pub payload : Item → List ℕ
+payload sentinel = sentinelBytes
+payload (entity v) = bytes Entity v
+
+-- An entry: a 4-byte length, and that many payload bytes
+abbrev pub entry : Item → List ℕ
+entry i = four (length (payload i)) ++ payload i
+
+-- Entries, one after the other
+abbrev pub entries : List Item → List ℕ
+entries [] = []
+entries (i ∷ is) = entry i ++ entries is
+
+-- What a derivation derives: the entries of its items, then the padding
+abbrev pub derive : Derivation → List ℕ
+derive d = entries (d .items) ++ replicate (d .padding) 0
+
+-- An entity is proper if its value is, and its length fits 4 bytes
+abbrev pub ProperItem : Item → Type 0
+ProperItem sentinel = Unit {0}
+ProperItem (entity v) = Proper Entity v × (length (bytes Entity v) < 4294967296)
+
+-- Each item is proper
+abbrev pub ProperItems : List Item → Type 0
+ProperItems [] = Unit {0}
+ProperItems (i ∷ is) = ProperItem i × ProperItems is
+
+-- An entity where it stands: the place of its payload, and its leaves
+pub record Placed : Type 0 where
+  pub at : ℕ
+  pub leaves : List Leaf
+
+-- The entities among items whose first entry begins at a place. A payload begins behind the 4 bytes of its length; a sentinel is no entity
+abbrev pub placed : ℕ → List Item → List Placed
+placed at [] = []
+placed at (sentinel ∷ is) = placed (at + 4 + length sentinelBytes) is
+placed at (entity v ∷ is) = record { at = at + 4; leaves = leaves Entity v } ∷ placed (at + 4 + length (bytes Entity v)) is
+
+-- The number of the leaves of entities
+abbrev pub leafCount : List Placed → ℕ
+leafCount [] = 0
+leafCount (e ∷ es) = length (e .leaves) + leafCount es
+
+-- The rows of the leaves of entities
+abbrev pub rowsOf : List Placed → List ℕ
+rowsOf [] = []
+rowsOf (e ∷ es) = rowsFrom (e .at) (e .leaves) ++ rowsOf es
+
+-- What entities give: their number, the number of their leaves, and their rows
+abbrev pub givenOf : List Placed → Given
+givenOf es = record { entities = length es; leaves = leafCount es; rows = rowsOf es }
+
+-- The entities of a derivation, with places from the section's start
+abbrev pub entitiesOf : Derivation → List Placed
+entitiesOf d = placed 0 (d .items)
+
+-- The number of the sentinels among items
+abbrev pub sentinels : List Item → ℕ
+sentinels [] = 0
+sentinels (sentinel ∷ is) = 1 + sentinels is
+sentinels (entity v ∷ is) = sentinels is
+
+-- The bytes that a leaf takes
+abbrev pub leafSize : Leaf → ℕ
+leafSize (plain Kind n) = 1
+leafSize (plain Tag n) = 1
+leafSize (plain Flag n) = 1
+leafSize (plain Number n) = 4
+leafSize (plain Count n) = 4
+leafSize (string t) = 4 + length t
+
+-- The bytes that leaves take
+abbrev pub leafSizes : List Leaf → ℕ
+leafSizes [] = 0
+leafSizes (x ∷ ls) = leafSize x + leafSizes ls
+
+-- The bytes that the leaves of entities take
+abbrev pub entitySizes : List Placed → ℕ
+entitySizes [] = 0
+entitySizes (e ∷ es) = leafSizes (e .leaves) + entitySizes es

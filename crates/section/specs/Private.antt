@@ -1,0 +1,59 @@
+-- What only the private functions of the crate promise one another. No public contract cites anything here.
+use Prim.Native.Nat.{ℕ, _+_}
+use mathlib.Core.Bool.{cond}
+use mathlib.Core.List.{List, [], _∷_}
+use mathlib.Core.Path.{_≡_}
+use lib.Dec.{ltb}
+use lib.ListN.{length, take, drop}
+use Rattle.layout.specs.Reading.{Outcome, ok, refuse}
+use Rattle.layout.specs.Entities.{Entity}
+use Rattle.leaf.specs.State.{State, state, start, seek, lengthAt, refusedOnce}
+use Rattle.leaf.specs.Run.{run}
+use Rattle.leaf.specs.Theorems.{arriveAll}
+use Rattle.leaf.specs.declared.Cursor.{Cursor}
+use Rattle.section.specs.Derivation.{sentinelBytes, Placed}
+use Rattle.section.specs.Section.{same}
+use Rattle.section.specs.declared.Progress.{Progress}
+
+-- What is read so far, with the table
+pub record Stage : Type 0 where
+  pub state : State
+  pub entities : ℕ
+
+abbrev pub stage : State → (entities : ℕ) → Stage
+stage st n = record { state = st; entities = n }
+
+abbrev pub staged : Progress → List ℕ → Stage
+staged p table = stage (state (p .cursor) table) (p .entities)
+
+-- A state at another place
+abbrev pub seeks : (at : ℕ) → State → State
+seeks at st = state (seek at (st .cursor)) (st .table)
+
+-- 12 where a cursor stands, if the payload goes on
+abbrev pub closed : (end : ℕ) → Cursor → Cursor
+closed end c = cond (ltb (c .at) end) (refusedOnce 12 (c .at) c) c
+
+-- What a payload makes of a stage: the sentinel is passed over, everything else is read as an entity
+abbrev pub entered : List ℕ → (begin end : ℕ) → Stage → Stage
+entered s begin end g =
+    let r = run Entity (take end s) (seeks begin (g .state)) in
+    cond (same (drop begin (take end s)) sentinelBytes)
+    (stage (seeks end (g .state)) (g .entities))
+    (stage (state (closed end (r .cursor)) (r .table)) (g .entities + 1))
+
+-- What the entry where a stage stands makes of it
+unfoldable pub entry : List ℕ → Stage → Stage
+entry s g =
+    let at = g .state .cursor .at in
+    entered s (at + 4) (at + 4 + lengthAt s at) g
+
+-- Entities that are read one after the other
+abbrev pub arriveEntities : List Placed → State → State
+arriveEntities [] st = st
+arriveEntities (e ∷ es) st = arriveEntities es (arriveAll (e .leaves) (seeks (e .at) st))
+
+-- A stage at the padding, by the outcome of a section's reading: all entities are read, with a table from the start; or it is refused so
+pub data Reads (table : List ℕ) (end : ℕ) (g : Stage) : Outcome ℕ (List Placed) → Type 0 where
+  reads : {es : List Placed} {at : ℕ} → g ≡ stage (seeks end (arriveEntities es (state start table))) (length es) → Reads table end g (ok es at)
+  stops : {n p : ℕ} → (g .state .cursor .refusal ≡ n) × (n ≡ 0 → ⊥) × (g .state .cursor .place ≡ p) × (length (g .state .table) ≡ length table) → Reads table end g (refuse n p)

@@ -1,0 +1,48 @@
+-- The reading of a section, by document 01's refusals 1 to 13 in their order.
+use Prim.Native.Nat.{ℕ}
+use mathlib.Core.Bool.{Bool, true, false, cond, _&&_}
+use mathlib.Core.List.{List, [], _∷_, _++_}
+use lib.Dec.{leb, eqb}
+use lib.ListN.{length, take, drop}
+use Rattle.layout.specs.Entities.{Entity}
+use Rattle.layout.specs.Reading.{Outcome, ok, _>>=_, need, read}
+use Rattle.layout.specs.Answers.{Result, Given, tell}
+use Rattle.layout.specs.Alone.{limit}
+use Rattle.section.specs.Derivation.{Placed, sentinelBytes, givenOf}
+use Rattle.section.specs.Framing.{Part, framing}
+
+-- The same bytes
+abbrev pub same : List ℕ → List ℕ → Bool
+same [] [] = true
+same [] (y ∷ ys) = false
+same (x ∷ xs) [] = false
+same (x ∷ xs) (y ∷ ys) = eqb x y && same xs ys
+
+-- One entity by 5 to 11; then 12, at the first byte that remains of the payload
+unfoldable pub readEntity : List ℕ → Part → Outcome ℕ (List Placed)
+readEntity s p =
+    read Entity (take (p .end) s) (p .begin) >>= λ ls end.
+    need (leb (p .end) end) 12 end (ok (record { at = p .begin; leaves = ls } ∷ []) end)
+
+-- A payload: the sentinel yields nothing, every other one must be one entity
+unfoldable pub readPayload : List ℕ → Part → Outcome ℕ (List Placed)
+readPayload s p = cond (same (drop (p .begin) (take (p .end) s)) sentinelBytes) (ok [] (p .end)) (readEntity s p)
+
+-- Payload after payload. The padding begins at `end`
+unfoldable pub readPayloads : List ℕ → (end : ℕ) → List Part → Outcome ℕ (List Placed)
+readPayloads s end [] = ok [] end
+readPayloads s end (p ∷ ps) =
+    readPayload s p >>= λ xs at.
+    readPayloads s end ps >>= λ ys at₁. ok (xs ++ ys) at₁
+
+-- The entities of a section: 1; then the whole framing; then the payloads
+unfoldable pub readSection : List ℕ → Outcome ℕ (List Placed)
+readSection s = need (leb (length s) limit) 1 0 (framing s >>= λ parts end. readPayloads s end parts)
+
+-- What they give
+abbrev pub sectionGiven : List ℕ → Outcome ℕ Given
+sectionGiven s = readSection s >>= λ es end. ok (givenOf es) end
+
+-- The reading of a section through a lent table; 13
+unfoldable pub reading : List ℕ → List ℕ → Result
+reading s table = tell (sectionGiven s) table

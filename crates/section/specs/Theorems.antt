@@ -1,0 +1,40 @@
+-- What is proved of the definitions, as statements. Each comment names the proof, in proofs/.
+use Prim.Native.Nat.{ℕ, _+_, _*_, _≤_}
+use mathlib.Core.List.{List}
+use mathlib.Core.Logic.{_↔_}
+use mathlib.Core.Path.{_≡_}
+use lib.ListN.{length}
+use Rattle.layout.specs.Reading.{ok}
+use Rattle.layout.specs.Answers.{Result}
+use Rattle.layout.specs.Theorems.{Bytes}
+use Rattle.section.specs.Derivation.{Placed, Derivation, derive, leafCount, entitiesOf, sentinels, entitySizes}
+use Rattle.section.specs.Section.{readSection, reading}
+use Rattle.section.specs.Demand3.{DerivedBy, Good, Demand3}
+
+-- A section is accepted exactly if it is derived, with the entities of its derivation: `section-exact` in Section.antt
+abbrev pub Section-exact : Type 0
+Section-exact =
+    (s : List ℕ) → Bytes s → (es : List Placed)
+    → ((end : ℕ) × (readSection s ≡ ok es end)) ↔ ((d : Derivation) × Good s d × (es ≡ entitiesOf d))
+
+-- No section has two derivations: `derivation-unique` in Derivation.antt
+abbrev pub Derivation-unique : Type 0
+Derivation-unique = (s : List ℕ) (d e : Derivation) → DerivedBy s d → DerivedBy s e → d ≡ e
+
+-- 4 for each entity and its leaves' bytes, 13 for each sentinel, and the padding make the section's length: `byte-sum` in Derivation.antt
+abbrev pub Byte-sum : Type 0
+Byte-sum =
+    (d : Derivation)
+    → 4 * length (entitiesOf d) + entitySizes (entitiesOf d) + 13 * sentinels (d .items) + d .padding ≡ length (derive d)
+
+-- Rows never outnumber the section's bytes: `rows-bound` in Derivation.antt
+abbrev pub Rows-bound : Type 0
+Rows-bound = (d : Derivation) → leafCount (entitiesOf d) ≤ length (derive d)
+
+-- The reading meets demand 3: `reading-meets` in Demand3.antt
+abbrev pub Reading-meets : Type 0
+Reading-meets = (s : List ℕ) → Bytes s → (table : List ℕ) → Demand3 s table (reading s table)
+
+-- And nothing else does: `reading-only` in Demand3.antt
+abbrev pub Reading-only : Type 0
+Reading-only = (s : List ℕ) → Bytes s → (table : List ℕ) (r : Result) → Demand3 s table r → r ≡ reading s table

@@ -1,0 +1,78 @@
+-- Each case of the answer has its lines.
+use native.Mathlib.Omega.{arith}
+use mathlib.Core.Path.{sym, ap, _∙_}
+use borrow.Author.Needs.{needs}
+use Rattle.listing.proofs.Lines.{accept-put, refuse-put}
+use Rattle.listing.specs.Private.{place, putAll}
+use Rattle.listing.specs.Listing.{lines}
+use Rattle.leaf.specs.Finish.{answerOf}
+use Rattle.leaf.specs.declared.Answer.{Answer}
+use Rattle.listing.proofs.put_answer.Statement.{statement}
+use Rattle.listing.proofs.put_answer.Tie as tie
+
+enum-known-answer : tie.Need-enum-known-answer
+enum-known-answer c = search needs
+
+slice-aggregate-put-counts : tie.Need-slice-aggregate-put-counts
+slice-aggregate-put-counts c = search needs
+
+put-counts-requires : tie.Need-put-counts-requires
+put-counts-requires c κs = search needs
+
+listed-rows-requires : tie.Need-listed-rows-requires
+listed-rows-requires c κs = search needs
+
+put-rows-requires : tie.Need-put-rows-requires
+put-rows-requires c κs = search needs
+
+enum-known-answer-2 : tie.Need-enum-known-answer-2
+enum-known-answer-2 c = search needs
+
+slice-aggregate-put-counts-2 : tie.Need-slice-aggregate-put-counts-2
+slice-aggregate-put-counts-2 c = search needs
+
+wide-requires : tie.Need-wide-requires
+wide-requires c κs = search needs
+
+put-counts-requires-2 : tie.Need-put-counts-requires-2
+put-counts-requires-2 c κs = search needs
+
+same-length : tie.Need-same-length
+same-length c = search needs
+
+returns : tie.Need-returns
+returns c =
+    let a = c .before .before .before .before .before .before .before .before .before .before .before .before .before .before .before .args in (
+      accept-put _ _ _ (a .table .now) _ _ _ (c .before .before .before .before .before .before .before .put-counts .ensures .0) (c .before .before .before .listed-rows .ensures) (c .before .before .put-rows .ensures .0)
+          ∙ ap (λ (x : Answer). putAll (lines (answerOf x) (a .table .now)) (place (a .out .now) 0)) (sym (c .before .before .before .before .before .before .before .before .before .before .before .answer .given .1)),
+      omega (arith, c .before .before .before .before .before .before .before .before .before .before .before .before .before .before .before .pre, c .before .before .before .before .before .before .before .put-counts .ensures .1, c .before .before .before .listed-rows .ensures, c .before .before .put-rows .ensures .1),
+    )
+
+same-length-2 : tie.Need-same-length-2
+same-length-2 c = search needs
+
+returns-2 : tie.Need-returns-2
+returns-2 c =
+    let a = c .before .before .before .before .before .before .before .before .before .before .before .args in (
+      refuse-put _ _ _ (a .table .now) _ _ (c .before .before .before .wide .ensures .0) (c .before .before .put-counts2 .ensures .0)
+          ∙ ap (λ (x : Answer). putAll (lines (answerOf x) (a .table .now)) (place (a .out .now) 0)) (sym (c .before .before .before .before .before .before .before .answer2 .given .1)),
+      omega (arith, c .before .before .put-counts2 .ensures .1),
+    )
+
+pub put-answer-spec : {M : Type 1} → statement M
+put-answer-spec =
+    tie.close
+    (tie.spec
+    enum-known-answer
+    slice-aggregate-put-counts
+    put-counts-requires
+    listed-rows-requires
+    put-rows-requires
+    enum-known-answer-2
+    slice-aggregate-put-counts-2
+    wide-requires
+    put-counts-requires-2
+    same-length
+    returns
+    same-length-2
+    returns-2)

@@ -1,0 +1,39 @@
+-- Three words and the end of a line are the line.
+use native.Mathlib.Omega.{arith}
+use borrow.Author.Needs.{needs}
+use Rattle.listing.proofs.Lines.{counts-put, counts-most}
+use Rattle.listing.proofs.Places.{place-behind}
+use Rattle.decimal.proofs.Numeral.{most-64}
+use Rattle.listing.proofs.put_counts.Statement.{statement}
+use Rattle.listing.proofs.put_counts.Tie as tie
+
+put-requires : tie.Need-put-requires
+put-requires c κs = search needs
+
+put-word-requires : tie.Need-put-word-requires
+put-word-requires c κs = omega (arith, place-behind _ _ _ (c .before .before .before .put .ensures))
+
+put-word-requires-2 : tie.Need-put-word-requires-2
+put-word-requires-2 c κs = omega (arith, place-behind _ _ _ (c .before .before .before .before .before .before .before .put .ensures), place-behind _ _ _ (c .before .before .before .put-word .ensures), most-64 (c .before .before .before .before .before .before .before .before .before .before .before .args .a) (omega arith))
+
+put-byte-requires : tie.Need-put-byte-requires
+put-byte-requires c κs = omega (arith, place-behind _ _ _ (c .before .before .before .before .before .before .before .before .before .before .before .put .ensures), place-behind _ _ _ (c .before .before .before .before .before .before .before .put-word .ensures), most-64 (c .before .before .before .before .before .before .before .before .before .before .before .before .before .before .before .args .a) (omega arith), place-behind _ _ _ (c .before .before .before .put-word2 .ensures), most-64 (c .before .before .before .before .before .before .before .before .before .before .before .before .before .before .before .args .b) (omega arith))
+
+same-length : tie.Need-same-length
+same-length c = search needs
+
+returns : tie.Need-returns
+returns c =
+    let e = counts-put _ _ _ _ _ _ _ _ (c .before .before .before .before .before .before .before .before .before .before .before .before .before .before .put .ensures) (c .before .before .before .before .before .before .before .before .before .before .put-word .ensures) (c .before .before .before .before .before .before .put-word2 .ensures) (c .before .before .put-byte .ensures) in
+    (e, omega (arith, place-behind _ _ _ e, counts-most (c .before .before .before .before .before .before .before .before .before .before .before .before .before .before .before .before .before .before .args .word .now) (c .before .before .before .before .before .before .before .before .before .before .before .before .before .before .before .before .before .before .args .a) (c .before .before .before .before .before .before .before .before .before .before .before .before .before .before .before .before .before .before .args .b) (c .before .before .before .before .before .before .before .before .before .before .before .before .before .before .before .before .before .before .pre) (omega arith) (omega arith)))
+
+pub put-counts-spec : {M : Type 1} → statement M
+put-counts-spec =
+    tie.close
+    (tie.spec
+    put-requires
+    put-word-requires
+    put-word-requires-2
+    put-byte-requires
+    same-length
+    returns)

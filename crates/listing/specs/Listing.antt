@@ -1,0 +1,71 @@
+-- The listing of a section, as bytes: document 01, "The listing program and its cases".
+use Prim.Native.Nat.{ℕ, zero, suc, _+_, _*_, min}
+use mathlib.Core.Bool.{cond}
+use mathlib.Core.List.{List, [], _∷_, _++_, map}
+use lib.Dec.{leb}
+use lib.ListN.{length, take, drop, replicate}
+use Rattle.layout.specs.Written.{rowWidth}
+use Rattle.layout.specs.Answers.{Answer, accepted, refused, Result, wholeRows}
+use Rattle.section.specs.Section.{reading}
+use Rattle.decimal.specs.Decimal.{decimal}
+
+-- The most bytes of a section that is listed
+abbrev pub mostBytes : ℕ
+mostBytes = 65536
+
+-- The rows that are lent for its reading
+abbrev pub lentRows : ℕ
+lentRows = 5461
+
+-- The table before the reading
+unfoldable pub lentTable : List ℕ
+lentTable = replicate (rowWidth * lentRows) 0
+
+-- `accept`
+abbrev pub acceptWord : List ℕ
+acceptWord = 0x61 ∷ 0x63 ∷ 0x63 ∷ 0x65 ∷ 0x70 ∷ 0x74 ∷ []
+
+-- `refuse`
+abbrev pub refuseWord : List ℕ
+refuseWord = 0x72 ∷ 0x65 ∷ 0x66 ∷ 0x75 ∷ 0x73 ∷ 0x65 ∷ []
+
+-- `long`
+abbrev pub longWord : List ℕ
+longWord = 0x6C ∷ 0x6F ∷ 0x6E ∷ 0x67 ∷ []
+
+-- The words of a line behind the first one, each behind one blank; then the line's end
+unfoldable pub further : List (List ℕ) → List ℕ
+further [] = 0x0A ∷ []
+further (w ∷ ws) = 0x20 ∷ w ++ further ws
+
+-- A line of words
+unfoldable pub line : List (List ℕ) → List ℕ
+line [] = 0x0A ∷ []
+line (w ∷ ws) = w ++ further ws
+
+-- A line for each of the first rows of a table
+unfoldable pub rowLines : (rows : ℕ) → List ℕ → List ℕ
+rowLines zero table = []
+rowLines (suc k) table = line (map decimal (take rowWidth table)) ++ rowLines k (drop rowWidth table)
+
+-- The lines of an answer with its table
+unfoldable pub lines : Answer → List ℕ → List ℕ
+lines (accepted entities rows) table =
+    line (acceptWord ∷ decimal entities ∷ decimal rows ∷ []) ++ rowLines (min rows (wholeRows table)) table
+lines (refused number place) table = line (refuseWord ∷ decimal number ∷ decimal place ∷ [])
+
+-- The lines of a result
+abbrev pub resultLines : Result → List ℕ
+resultLines r = lines (r .answer) (r .table)
+
+-- The listing of the bytes s
+unfoldable pub listing : List ℕ → List ℕ
+listing s = cond (leb (length s) mostBytes) (resultLines (reading s lentTable)) (line (longWord ∷ []))
+
+-- No listing is longer: a line for the counts of 20 digits at most, and a line for each row with numbers of 10 digits at most
+abbrev pub mostListed : ℕ
+mostListed = 49 + 11 * rowWidth * lentRows
+
+-- What stands in `out` once bytes are put to its start: as many of them as fit, then what stood there before
+abbrev pub atStart : List ℕ → (out : List ℕ) → List ℕ
+atStart bytes out = take (length out) bytes ++ drop (length bytes) out

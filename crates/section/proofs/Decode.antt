@@ -5,15 +5,15 @@ use mathlib.Core.List.{List}
 use mathlib.Core.Path.{_≡_, refl, sym, ap, subst, _∙_}
 use lib.ListN.{length, take, length-take}
 use borrow.Author.Tests.{lt-leb, le-leb}
-use Rattle.layout.specs.Reading.{Outcome, ok, refuse, _>>=_}
-use Rattle.layout.specs.Answers.{Result, refusal}
+use Rattle.layout.specs.Reading.{ok, refuse}
+use Rattle.layout.specs.Answers.{Result}
 use Rattle.layout.specs.Alone.{limit}
 use Rattle.layout.specs.Theorems.{Bytes}
 use Rattle.leaf.specs.declared.Cursor.{Cursor}
 use Rattle.leaf.specs.State.{state, start, stopped, refusedOnce}
 use Rattle.leaf.specs.Finish.{finished}
 use Rattle.leaf.proofs.Finish.{finished-long, finished-refused}
-use Rattle.section.specs.Framing.{Parts, boundaries, framing}
+use Rattle.section.specs.Framing.{Parts, framing}
 use Rattle.section.specs.Answers.{framingOf, framingEnd}
 use Rattle.section.specs.Section.{readSection, reading}
 use Rattle.section.specs.Demand3.{Demand3}

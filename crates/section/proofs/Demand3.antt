@@ -2,26 +2,28 @@
 use Prim.Native.Nat.{ℕ, zero, suc, _+_, _≤_}
 use native.Mathlib.Omega.{arith}
 use mathlib.Core.Bool.{Bool, true, false, cond}
-use mathlib.Core.List.{List, [], _∷_, _++_}
-use mathlib.Core.Path.{_≡_, refl, ap}
+use mathlib.Core.List.{List, [], _∷_}
+use mathlib.Core.Path.{_≡_, refl, ap, _∙_}
 use lib.Dec.{leb, ltb}
 use lib.ListN.{length, getD, take, drop}
-use Rattle.layout.specs.Layout.{Sort, Kind, Tag, Flag, Number, Count, Verdict, fine, wrong, Fault, unknown-kind, unknown-tag, other-mapping, error-result, refusalOf, Layout, nothing, one, text, _then_, case, check, Value, leaves}
+use Rattle.layout.specs.Layout.{Sort, Kind, Tag, Flag, Number, Count, Verdict, fine, wrong, unknown-kind, unknown-tag, other-mapping, error-result, Layout, nothing, one, text, _then_, case, check, leaves}
 use Rattle.layout.specs.Reading.{Outcome, ok, refuse, _>>=_, need, judged, walk, utf8, enough, numberAt, byteAt, fourAt, plainAt, textAt, inBytes, readValue, read}
 use Rattle.layout.specs.Entities.{Entity}
-use Rattle.layout.specs.Answers.{Given, refusalIn}
+use Rattle.layout.specs.Answers.{refusal, tell}
+use Rattle.layout.specs.Alone.{limit}
 use Rattle.layout.specs.Theorems.{Bytes}
-use Rattle.layout.proofs.Walk.{all-bind, all-ok}
+use Rattle.layout.proofs.Walk.{all-bind}
 use Rattle.layout.proofs.Alone.{Finds, exact, exact-only}
-use Rattle.section.specs.Derivation.{Derivation, sentinelBytes, entries, givenOf}
+use Rattle.section.specs.Derivation.{Derivation, Placed, sentinelBytes, entries, givenOf}
 use Rattle.section.specs.Framing.{allZero, Part, Parts, boundary, boundaries, framing}
 use Rattle.section.specs.Section.{same, readEntity, readPayload, readPayloads, readSection, sectionGiven, reading}
-use Rattle.section.specs.Demand3.{Good, gives, Demand3}
+use Rattle.section.specs.Refusals.{Refusal}
+use Rattle.section.specs.Demand3.{Good, gives}
 use Rattle.section.specs.Theorems.{Reading-meets, Reading-only}
 use Rattle.section.proofs.Derivation.{derivation-unique}
-use Rattle.section.proofs.Section.{section-complete, section-sound}
+use Rattle.section.proofs.Section.{section-complete, section-sound, section-exact}
+use Rattle.section.proofs.Refusals.{refusal-exact, refusal-one}
 use Rattle.layout.proofs.Walk as walks
-use Rattle.section.specs.Demand3 as demand3
 
 -- A refusal's number is one of 1 to 12
 pub data Numbered {S A : Type 0} : Outcome S A → Type 0 where
@@ -116,12 +118,9 @@ unfolding boundaries
 numbered-boundaries zero s at = accepted
 numbered-boundaries (suc k) s at = numbered-boundary s (boundaries k s) (λ m. numbered-boundaries k s m) at
 
-numbered-section : (s : List ℕ) → Numbered (sectionGiven s)
+numbered-section : (s : List ℕ) → Numbered (readSection s)
 unfolding readSection framing
-numbered-section s =
-    numbered-bind (readSection s) _
-    (numbered-need (leb (length s) _) 1 0 _ (omega arith, omega arith) (numbered-bind (framing s) _ (numbered-boundaries (suc (length s)) s 0) λ ps end. numbered-payloads s end ps))
-    λ es end. accepted
+numbered-section s = numbered-need (leb (length s) limit) 1 0 _ (omega arith, omega arith) (numbered-bind (framing s) _ (numbered-boundaries (suc (length s)) s 0) λ ps end. numbered-payloads s end ps)
 
 -- What the reading finds is what a derivation gives
 finds : (s : List ℕ) → Bytes s → Finds (Good s) gives (sectionGiven s)
@@ -131,23 +130,32 @@ finds s u = record {
 }
 
 pub reading-meets : Reading-meets
-unfolding reading demand3.refusalOf
+unfolding reading
 reading-meets s u table =
     let e = exact (Good s) gives (sectionGiven s) (finds s u) table in
     record {
       accepts = e .accepts;
       fits = e .fits;
       too-few = e .too-few;
-      others = e .others;
-      numbered = λ none. go (sectionGiven s) refl (numbered-section s) none;
+      others = λ none. go (readSection s) refl (numbered-section s) none;
+      one-refusal = refusal-one s u;
       unique = λ d f p q. derivation-unique s d f p q;
     }
   where
-    go : (m : Outcome ℕ Given) → sectionGiven s ≡ m → Numbered m → ((d : Derivation) → Good s d → ⊥) → (1 ≤ refusalIn m .0) × (refusalIn m .0 ≤ 12)
-    go (ok g end) e h none = let t = all-ok (finds s u .sound) e in absurd (none (t .0) (t .1))
-    go (refuse n p) e h none = number-of h
+    go : (m : Outcome ℕ (List Placed)) → readSection s ≡ m → Numbered m → ((d : Derivation) → Good s d → ⊥)
+        → (n p : ℕ) × Refusal s n p × (1 ≤ n) × (n ≤ 12) × (tell (m >>= λ es end. ok (givenOf es) end) table ≡ refusal n p table)
+    go (ok es end) e h none = let t = section-exact s u es .0 (end, e) in absurd (none (t .0) (t .1))
+    go (refuse n p) e h none = (n, p, refusal-exact s u n p .0 e, number-of h .0, number-of h .1, refl)
 
 pub reading-only : Reading-only
-unfolding reading demand3.refusalOf
+unfolding reading
 reading-only s u table r t =
-    exact-only (Good s) gives (sectionGiven s) (finds s u) table r (record { accepts = t .accepts; fits = t .fits; too-few = t .too-few; others = t .others })
+    exact-only (Good s) gives (sectionGiven s) (finds s u) table r
+    (record {
+      accepts = t .accepts;
+      fits = t .fits;
+      too-few = t .too-few;
+      others = λ none.
+          let (n, p, h, a, b, e) = t .others none in
+          e ∙ rw (refusal-exact s u n p .1 h);
+    })

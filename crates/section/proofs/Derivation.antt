@@ -10,8 +10,7 @@ use Rattle.layout.specs.Entities.{Entity}
 use Rattle.layout.proofs.Numbers.{number-four}
 use Rattle.layout.proofs.Rows.{leaves-bytes}
 use Rattle.layout.proofs.InBytes.{value-unique}
-use Rattle.section.specs.Derivation.{Item, sentinel, entity, Derivation, payload, entry, entries, derive, ProperItem, ProperItems, Placed, placed, leafCount, entitiesOf, sentinels, leafSize, leafSizes, entitySizes}
-use Rattle.section.specs.Demand3.{DerivedBy}
+use Rattle.section.specs.Derivation.{Item, sentinel, entity, payload, entry, entries, ProperItem, ProperItems, Placed, placed, leafCount, entitiesOf, sentinels, leafSize, leafSizes, entitySizes}
 use Rattle.section.specs.Theorems.{Derivation-unique, Byte-sum, Rows-bound}
 
 -- Sizes

@@ -1,19 +1,18 @@
 -- The two walks over a section: from boundary to boundary, and from entry to entry.
 use Prim.Native.Nat.{ℕ, _+_, _*_, _/_, _≤_, _<_}
-use native.Mathlib.Nat.{add-zero}
 use native.Mathlib.Omega.{arith}
 use mathlib.Core.Bool.{Bool, true, false, cond}
 use mathlib.Core.List.{List, [], _∷_, _++_, append-assoc, append-nil}
 use mathlib.Core.Path.{_≡_, refl, sym, ap, subst, _∙_}
-use lib.Dec.{ltb, leb, eqb}
+use lib.Dec.{ltb, leb}
 use lib.ListN.{length, take, drop, length-append, length-drop}
 use lib.Seq.{length-take-le, take-add, drop-at}
 use borrow.Author.Tests.{ltb-true, ltb-false, ne-eqb, leb-true, leb-false, le-leb, lt-leb, eq-eqb}
 use Rattle.layout.specs.Layout.{Leaf}
-use Rattle.layout.specs.Written.{four, bytes, rowWidth}
+use Rattle.layout.specs.Written.{bytes, rowWidth}
 use Rattle.layout.specs.Entities.{Entity}
-use Rattle.layout.specs.Reading.{Outcome, ok, refuse, _>>=_, need, numberAt, read}
-use Rattle.layout.specs.Answers.{Result, wholeRows, acceptance, refusal, tell}
+use Rattle.layout.specs.Reading.{Outcome, ok, refuse, _>>=_, numberAt, read}
+use Rattle.layout.specs.Answers.{wholeRows, acceptance, refusal, tell}
 use Rattle.layout.specs.Alone.{limit}
 use Rattle.layout.specs.Theorems.{Bytes}
 use Rattle.layout.proofs.Walk.{all-ok}
@@ -30,9 +29,10 @@ use Rattle.leaf.proofs.Finish.{finished-refused, finished-short, finished-whole
 use Rattle.section.specs.Derivation.{sentinelBytes, Placed, leafCount, rowsOf, givenOf}
 use Rattle.section.specs.Framing.{allZero, Part, Parts, framing}
 use Rattle.section.specs.Answers.{framingEnd}
-use Rattle.section.specs.Section.{same, readEntity, readPayload, readPayloads, readSection}
+use Rattle.section.specs.Section.{same, ended, readEntity, readPayload, readPayloads, readSection}
 use Rattle.section.specs.Private.{Stage, stage, seeks, closed, entered, entry, arriveEntities, Reads, reads, stops}
-use Rattle.section.proofs.Framing.{framed, Framable, partAt, partsOf, partsBefore, FramedAs, framingFrom, framing-start, framed-as, from-pad, from-few, from-zero, from-long, from-entry, four-not-zero, EntryAt, entry-at}
+use Rattle.section.specs.Refusals.{framed, Framable}
+use Rattle.section.proofs.Framing.{partAt, partsOf, partsBefore, framingFrom, framing-start, framed-as, from-pad, from-few, from-zero, from-long, from-entry, four-not-zero, entry-at}
 use Rattle.section.proofs.Section.{bytes-take}
 
 -- Where the framing ends
@@ -230,7 +230,7 @@ module _ (s table : List ℕ) (u : Bytes s) (small : length s ≤ limit) (end : 
       result = stage (state (closed (at + 4 + n) (r .cursor)) (r .table)) (length es + 1)
 
       payload-read : (o : Outcome ℕ (List Leaf)) → read Entity (take (at + 4 + n) s) (at + 4) ≡ o
-          → readPayload s (partAt at n) ≡ (o >>= λ ls e. need (leb (at + 4 + n) e) 12 e (ok (record { at = at + 4; leaves = ls } ∷ []) e))
+          → readPayload s (partAt at n) ≡ (o >>= λ ls e. ended (partAt at n) ls e)
       unfolding readPayload readEntity
       payload-read o q = rw (f, q)
 

@@ -15,17 +15,8 @@ use Rattle.layout.specs.Theorems.{Bytes}
 use Rattle.layout.proofs.Walk.{All, given, all-bind, all-need}
 use Rattle.layout.proofs.InBytes.{behind, four-sound, number-small, four-complete}
 use Rattle.section.specs.Framing.{allZero, Part, Parts, boundary, boundaries, framing}
+use Rattle.section.specs.Refusals.{framed, Framable}
 use Rattle.section.proofs.Derivation.{four-zero}
-
--- Payloads as entries
-abbrev pub framed : List (List ℕ) → List ℕ
-framed [] = []
-framed (x ∷ xs) = four (length x) ++ x ++ framed xs
-
--- An entry's length is at least 1 and fits 4 bytes
-abbrev pub Framable : List (List ℕ) → Type 0
-Framable [] = Unit {0}
-Framable (x ∷ xs) = (1 ≤ length x) × (length x < 4294967296) × Framable xs
 
 -- A payload of n bytes, in an entry that begins at a place
 abbrev pub partAt : (at n : ℕ) → Part
@@ -93,7 +84,7 @@ padding-framed : (s : List ℕ) (at : ℕ) → allZero (drop at s) ≡ true → 
 padding-framed s at e = record { payloads = []; framable = tt; there = refl; parts = refl; ends = omega arith; padding = rw length-drop at (allZero-sound (drop at s) e) }
 
 -- The payload of an entry
-entry-cut : (s : List ℕ) (at n : ℕ) → at + 4 + n ≤ length s → drop at s ≡ four n ++ drop (at + 4) s → (x : List ℕ) × (length x ≡ n) × (drop at s ≡ four (length x) ++ (x ++ drop (at + 4 + n) s))
+pub entry-cut : (s : List ℕ) (at n : ℕ) → at + 4 + n ≤ length s → drop at s ≡ four n ++ drop (at + 4) s → (x : List ℕ) × (length x ≡ n) × (drop at s ≡ four (length x) ++ (x ++ drop (at + 4 + n) s))
 entry-cut s at n h e =
     let lx : length (take n (drop (at + 4) s)) ≡ n = length-take-le n (drop (at + 4) s) (omega (arith, length-drop (at + 4) s)) in
     let d : take n (drop (at + 4) s) ++ drop (at + 4 + n) s ≡ drop (at + 4) s = rw (← drop-drop n (at + 4) s) (take-append-drop n (drop (at + 4) s)) in
@@ -112,7 +103,7 @@ entry-framed s at n {ps} {end} h h₁ h₂ e r =
       padding = r .padding;
     }
 
-boundaries-sound : (s : List ℕ) → Bytes s → (k at : ℕ) → at ≤ length s → length s < at + k → All (FramedAs s at) (boundaries k s at)
+pub boundaries-sound : (s : List ℕ) → Bytes s → (k at : ℕ) → at ≤ length s → length s < at + k → All (FramedAs s at) (boundaries k s at)
 unfolding boundaries boundary
 boundaries-sound s u zero at h f = absurd (omega arith)
 boundaries-sound s u (suc k) at h f =

@@ -1,28 +1,28 @@
 -- A section is accepted exactly if a derivation derives it, with the derivation's entities.
 use Prim.Native.Nat.{ℕ, _+_, _-_, _≤_, _<_}
 use native.Mathlib.Omega.{arith}
-use mathlib.Core.Bool.{Bool, true, false, cond, and-eq-true-iff}
+use mathlib.Core.Bool.{true, false, and-eq-true-iff}
 use mathlib.Core.List.{List, [], _∷_, _++_, append-assoc, append-nil, map}
 use mathlib.Core.Path.{_≡_, refl, sym, ap, _∙_}
-use lib.Dec.{leb, eqb}
-use lib.ListN.{length, getD, take, drop, replicate, length-append, length-drop, length-take}
+use lib.Dec.{leb}
+use lib.ListN.{length, take, drop, replicate, length-append, length-drop, length-take}
 use lib.Seq.{take-append-seam, length-take-le, take-add, drop-at, getD-take}
 use borrow.Author.Tests.{leb-true, eqb-true, le-leb}
-use Rattle.layout.specs.Layout.{leaves, Leaf}
 use Rattle.layout.specs.Written.{four, bytes}
 use Rattle.layout.specs.Entities.{Entity}
-use Rattle.layout.specs.Reading.{Outcome, ok, refuse, read}
+use Rattle.layout.specs.Reading.{Outcome, ok, read}
 use Rattle.layout.specs.Alone.{limit}
 use Rattle.layout.specs.Theorems.{Bytes}
 use Rattle.layout.proofs.Walk.{All, given, refused, all-bind, all-need, all-ok, all-when}
 use Rattle.layout.proofs.InBytes.{behind, read-complete, read-sound}
-use Rattle.section.specs.Derivation.{Item, sentinel, entity, Derivation, sentinelBytes, payload, entries, derive, ProperItem, ProperItems, Placed, placed, entitiesOf}
+use Rattle.section.specs.Derivation.{Item, sentinel, entity, Derivation, sentinelBytes, payload, entries, ProperItem, ProperItems, Placed, placed, entitiesOf}
 use Rattle.section.specs.Framing.{framing}
 use Rattle.section.specs.Section.{same, readEntity, readPayload, readPayloads, readSection}
-use Rattle.section.specs.Demand3.{DerivedBy, Good}
+use Rattle.section.specs.Demand3.{Good}
 use Rattle.section.specs.Theorems.{Section-exact}
 use Rattle.section.proofs.Derivation.{payload-some, payload-small, kind-some, append-parts}
-use Rattle.section.proofs.Framing.{framed, Framable, partAt, partsOf, FramedAs, all-cond, not-true, framing-complete, framing-sound}
+use Rattle.section.specs.Refusals.{framed, Framable}
+use Rattle.section.proofs.Framing.{partAt, partsOf, all-cond, not-true, framing-complete, framing-sound}
 
 pub same-sound : (x y : List ℕ) → same x y ≡ true → x ≡ y
 same-sound [] [] e = refl
@@ -49,13 +49,13 @@ bytes-take n s u i h =
     rw (getD-take n s i 0 (omega arith)) (u i (omega arith))
 
 -- A payload is an item
-record IsItem (a : ℕ) (x : List ℕ) (es : List Placed) : Type 0 where
-  item : Item
-  proper : ProperItem item
-  is : x ≡ payload item
-  found : (at : ℕ) → at + 4 ≡ a → es ≡ placed at (item ∷ [])
+pub record IsItem (a : ℕ) (x : List ℕ) (es : List Placed) : Type 0 where
+  pub item : Item
+  pub proper : ProperItem item
+  pub is : x ≡ payload item
+  pub found : (at : ℕ) → at + 4 ≡ a → es ≡ placed at (item ∷ [])
 
-payload-sound : (s : List ℕ) → Bytes s → (a : ℕ) (x r : List ℕ) → 1 ≤ length x → length x < 4294967296 → drop a s ≡ x ++ r → All (λ es end. IsItem a x es) (readPayload s (record { begin = a; end = a + length x }))
+pub payload-sound : (s : List ℕ) → Bytes s → (a : ℕ) (x r : List ℕ) → 1 ≤ length x → length x < 4294967296 → drop a s ≡ x ++ r → All (λ es end. IsItem a x es) (readPayload s (record { begin = a; end = a + length x }))
 unfolding readPayload readEntity
 payload-sound s u a x r h h₂ e =
     let t : drop a (take (a + length x) s) ≡ x = part-there s a x r h e in
@@ -70,7 +70,7 @@ payload-sound s u a x r h h₂ e =
     let b : x ≡ bytes Entity v = append-parts x (bytes Entity v) [] (drop end (take (a + length x) s)) n (append-nil x ∙ d) .0 in
     given (record { item = entity v; proper = (proper, rw (← n) h₂); is = b; found = λ at k. rw (same-leaves, k) })
 
-payload-complete : (s : List ℕ) (at : ℕ) (i : Item) (r : List ℕ) → ProperItem i → drop (at + 4) s ≡ payload i ++ r → readPayload s (partAt at (length (payload i))) ≡ ok (placed at (i ∷ [])) (at + 4 + length (payload i))
+pub payload-complete : (s : List ℕ) (at : ℕ) (i : Item) (r : List ℕ) → ProperItem i → drop (at + 4) s ≡ payload i ++ r → readPayload s (partAt at (length (payload i))) ≡ ok (placed at (i ∷ [])) (at + 4 + length (payload i))
 unfolding readPayload readEntity
 payload-complete s at sentinel r p e = rw (part-there s (at + 4) sentinelBytes r (omega arith) e)
 payload-complete s at (entity v) r p e =
@@ -80,17 +80,17 @@ payload-complete s at (entity v) r p e =
     rw (t, f, read-complete Entity v (take (at + 4 + length x) s) (at + 4) [] (p .0) (t ∙ sym (append-nil x)), le-leb (at + 4 + length x) (at + 4 + length x) (omega arith))
 
 -- Payloads are items
-record AreItems (at : ℕ) (pays : List (List ℕ)) (es : List Placed) : Type 0 where
-  all : List Item
-  proper : ProperItems all
-  are : pays ≡ map payload all
-  found : es ≡ placed at all
+pub record AreItems (at : ℕ) (pays : List (List ℕ)) (es : List Placed) : Type 0 where
+  pub all : List Item
+  pub proper : ProperItems all
+  pub are : pays ≡ map payload all
+  pub found : es ≡ placed at all
 
 placed-more : (at : ℕ) (i : Item) (is : List Item) → placed at (i ∷ []) ++ placed (at + 4 + length (payload i)) is ≡ placed at (i ∷ is)
 placed-more at sentinel is = refl
 placed-more at (entity v) is = refl
 
-payloads-sound : (s : List ℕ) → Bytes s → (end at : ℕ) (pays : List (List ℕ)) (r : List ℕ) → Framable pays → drop at s ≡ framed pays ++ r → All (λ es e. AreItems at pays es) (readPayloads s end (partsOf at pays))
+pub payloads-sound : (s : List ℕ) → Bytes s → (end at : ℕ) (pays : List (List ℕ)) (r : List ℕ) → Framable pays → drop at s ≡ framed pays ++ r → All (λ es e. AreItems at pays es) (readPayloads s end (partsOf at pays))
 unfolding readPayloads
 payloads-sound s u end at [] r f e = given (record { all = []; proper = tt; are = refl; found = refl })
 payloads-sound s u end at (x ∷ pays) r f e =
@@ -110,7 +110,7 @@ payloads-complete s end at (i ∷ is) r p e =
     let d : drop (at + 4) s ≡ x ++ (entries is ++ r) = behind s at (four (length x)) _ g in
     rw (payload-complete s at i _ (p .0) d, payloads-complete s end (at + 4 + length x) is r (p .1) (behind s (at + 4) x _ d), placed-more at i is)
 
-entries-framed : (is : List Item) → entries is ≡ framed (map payload is)
+pub entries-framed : (is : List Item) → entries is ≡ framed (map payload is)
 entries-framed [] = refl
 entries-framed (i ∷ is) = rw (entries-framed is)
 

@@ -4,6 +4,7 @@ use mathlib.Core.Bool.{Bool, true, false, cond, _&&_}
 use mathlib.Core.List.{List, [], _∷_, _++_}
 use lib.Dec.{leb, eqb}
 use lib.ListN.{length, take, drop}
+use Rattle.layout.specs.Layout.{Leaf}
 use Rattle.layout.specs.Entities.{Entity}
 use Rattle.layout.specs.Reading.{Outcome, ok, _>>=_, need, read}
 use Rattle.layout.specs.Answers.{Result, Given, tell}
@@ -18,11 +19,13 @@ same [] (y ∷ ys) = false
 same (x ∷ xs) [] = false
 same (x ∷ xs) (y ∷ ys) = eqb x y && same xs ys
 
--- One entity by 5 to 11; then 12, at the first byte that remains of the payload
+-- The leaves of an entity that ends with its payload; else 12, at the first byte that remains
+abbrev pub ended : Part → List Leaf → (end : ℕ) → Outcome ℕ (List Placed)
+ended p ls end = need (leb (p .end) end) 12 end (ok (record { at = p .begin; leaves = ls } ∷ []) end)
+
+-- One entity, by 5 to 11, then 12
 unfoldable pub readEntity : List ℕ → Part → Outcome ℕ (List Placed)
-readEntity s p =
-    read Entity (take (p .end) s) (p .begin) >>= λ ls end.
-    need (leb (p .end) end) 12 end (ok (record { at = p .begin; leaves = ls } ∷ []) end)
+readEntity s p = read Entity (take (p .end) s) (p .begin) >>= λ ls end. ended p ls end
 
 -- A payload: the sentinel yields nothing, every other one must be one entity
 unfoldable pub readPayload : List ℕ → Part → Outcome ℕ (List Placed)

@@ -4,11 +4,12 @@ use mathlib.Core.List.{List}
 use mathlib.Core.Logic.{_↔_}
 use mathlib.Core.Path.{_≡_}
 use lib.ListN.{length}
-use Rattle.layout.specs.Reading.{ok}
+use Rattle.layout.specs.Reading.{ok, refuse}
 use Rattle.layout.specs.Answers.{Result}
 use Rattle.layout.specs.Theorems.{Bytes}
 use Rattle.section.specs.Derivation.{Placed, Derivation, derive, leafCount, entitiesOf, sentinels, entitySizes}
 use Rattle.section.specs.Section.{readSection, reading}
+use Rattle.section.specs.Refusals.{Refusal}
 use Rattle.section.specs.Demand3.{DerivedBy, Good, Demand3}
 
 -- A section is accepted exactly if it is derived, with the entities of its derivation: `section-exact` in Section.antt
@@ -16,6 +17,10 @@ abbrev pub Section-exact : Type 0
 Section-exact =
     (s : List ℕ) → Bytes s → (es : List Placed)
     → ((end : ℕ) × (readSection s ≡ ok es end)) ↔ ((d : Derivation) × Good s d × (es ≡ entitiesOf d))
+
+-- A section is refused exactly under the condition of its refusal: `refusal-exact` in Refusals.antt
+abbrev pub Refusal-exact : Type 0
+Refusal-exact = (s : List ℕ) → Bytes s → (n p : ℕ) → (readSection s ≡ refuse n p) ↔ Refusal s n p
 
 -- No section has two derivations: `derivation-unique` in Derivation.antt
 abbrev pub Derivation-unique : Type 0

@@ -7,7 +7,7 @@ ghost use lib.ListN.{length, drop};
 ghost use Rattle.layout.specs.Alone.{limit};
 ghost use Rattle.layout.specs.Reading.{ok};
 ghost use Rattle.layout.specs.Theorems.{Bytes};
-ghost use Rattle.leaf.specs.State.{start, lengthAt};
+ghost use Rattle.leaf.specs.State.{lengthAt};
 ghost use Rattle.leaf.specs.Finish.{resultOf};
 ghost use Rattle.section.specs.Framing.{allZero};
 ghost use Rattle.section.specs.Answers.{framingOf, framingEnd};

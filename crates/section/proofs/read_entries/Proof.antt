@@ -1,8 +1,7 @@
 -- From entry to entry, up to a refusal or to the padding.
 use Prim.Native.Nat.{_-_}
 use native.Mathlib.Omega.{arith}
-use mathlib.Core.Path.{sym, ap, _∙_}
-use lib.ListN.{length}
+use mathlib.Core.Path.{ap, _∙_}
 use denote.Ref.{now}
 use Rattle.leaf.specs.State.{state}
 use Rattle.leaf.specs.declared.Cursor.{Cursor}

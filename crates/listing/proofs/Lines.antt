@@ -7,6 +7,7 @@ use mathlib.Core.Path.{_≡_, sym, ap, _∙_}
 use lib.ListN.{length, take, drop, getD, length-append, drop-of-length-le}
 use lib.Seq.{drop-cons, drop-drop}
 use borrow.Author.Tests.{le-leb, lt-leb}
+use Rattle.decimal.specs.Ascii.{ascii}
 use Rattle.layout.specs.Written.{rowWidth}
 use Rattle.layout.specs.Answers.{accepted, refused, wholeRows}
 use Rattle.leaf.specs.declared.Answer.{Answer}
@@ -14,7 +15,7 @@ use Rattle.leaf.specs.Finish.{answerOf, resultOf}
 use Rattle.section.specs.Section.{reading}
 use Rattle.decimal.specs.Decimal.{decimal}
 use Rattle.decimal.proofs.Numeral.{most-64}
-use Rattle.listing.specs.Listing.{mostBytes, lentTable, acceptWord, refuseWord, longWord, further, line, rowLines, lines, listing, atStart}
+use Rattle.listing.specs.Listing.{mostBytes, lentTable, further, line, rowLines, lines, listing, atStart}
 use Rattle.listing.specs.Private.{Place, place, putByte, putAll}
 use Rattle.listing.proofs.Places.{put-append, put-start}
 
@@ -77,14 +78,14 @@ counts-most w a b l h k =
     )
 
 -- The lines of an acceptance
-pub accept-put : (entities rows n : ℕ) (table : List ℕ) (p q t : Place) → q ≡ putAll (line (acceptWord ∷ decimal entities ∷ decimal rows ∷ [])) p
+pub accept-put : (entities rows n : ℕ) (table : List ℕ) (p q t : Place) → q ≡ putAll (line (ascii "accept" ∷ decimal entities ∷ decimal rows ∷ [])) p
     → n ≡ min rows (wholeRows table) → t ≡ putAll (rowLines n table) q → t ≡ putAll (lines (accepted entities rows) table) p
 unfolding lines
 accept-put entities rows n table p q t e w f =
-    f ∙ rw (e, w) (sym (put-append (line (acceptWord ∷ decimal entities ∷ decimal rows ∷ [])) (rowLines (min rows (wholeRows table)) table) p))
+    f ∙ rw (e, w) (sym (put-append (line (ascii "accept" ∷ decimal entities ∷ decimal rows ∷ [])) (rowLines (min rows (wholeRows table)) table) p))
 
 -- The line of a refusal
-pub refuse-put : (number at n : ℕ) (table : List ℕ) (p t : Place) → n ≡ number → t ≡ putAll (line (refuseWord ∷ decimal n ∷ decimal at ∷ [])) p
+pub refuse-put : (number at n : ℕ) (table : List ℕ) (p t : Place) → n ≡ number → t ≡ putAll (line (ascii "refuse" ∷ decimal n ∷ decimal at ∷ [])) p
     → t ≡ putAll (lines (refused number at) table) p
 unfolding lines
 refuse-put number at n table p t w e = e ∙ rw w
@@ -95,7 +96,7 @@ unfolding line further putAll
 word-put w p q t e f = f ∙ rw e (sym (put-append w (0x0A ∷ []) p))
 
 -- The two ways of a listing
-pub long-listing : (s : List ℕ) → mostBytes < length s → listing s ≡ line (longWord ∷ [])
+pub long-listing : (s : List ℕ) → mostBytes < length s → listing s ≡ line (ascii "long" ∷ [])
 unfolding listing
 long-listing s h = rw (lt-leb (length s) mostBytes h)
 

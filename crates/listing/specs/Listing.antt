@@ -7,6 +7,7 @@ use lib.ListN.{length, take, drop, replicate}
 use Rattle.layout.specs.Written.{rowWidth}
 use Rattle.layout.specs.Answers.{Answer, accepted, refused, Result, wholeRows}
 use Rattle.section.specs.Section.{reading}
+use Rattle.decimal.specs.Ascii.{ascii}
 use Rattle.decimal.specs.Decimal.{decimal}
 
 -- The most bytes of a section that is listed
@@ -21,26 +22,14 @@ lentRows = 5461
 unfoldable pub lentTable : List ℕ
 lentTable = replicate (rowWidth * lentRows) 0
 
--- `accept`
-abbrev pub acceptWord : List ℕ
-acceptWord = 0x61 ∷ 0x63 ∷ 0x63 ∷ 0x65 ∷ 0x70 ∷ 0x74 ∷ []
-
--- `refuse`
-abbrev pub refuseWord : List ℕ
-refuseWord = 0x72 ∷ 0x65 ∷ 0x66 ∷ 0x75 ∷ 0x73 ∷ 0x65 ∷ []
-
--- `long`
-abbrev pub longWord : List ℕ
-longWord = 0x6C ∷ 0x6F ∷ 0x6E ∷ 0x67 ∷ []
-
 -- The words of a line behind the first one, each behind one blank; then the line's end
 unfoldable pub further : List (List ℕ) → List ℕ
-further [] = 0x0A ∷ []
-further (w ∷ ws) = 0x20 ∷ w ++ further ws
+further [] = ascii "\n"
+further (w ∷ ws) = ascii " " ++ w ++ further ws
 
 -- A line of words
 unfoldable pub line : List (List ℕ) → List ℕ
-line [] = 0x0A ∷ []
+line [] = ascii "\n"
 line (w ∷ ws) = w ++ further ws
 
 -- A line for each of the first rows of a table
@@ -51,8 +40,8 @@ rowLines (suc k) table = line (map decimal (take rowWidth table)) ++ rowLines k 
 -- The lines of an answer with its table
 unfoldable pub lines : Answer → List ℕ → List ℕ
 lines (accepted entities rows) table =
-    line (acceptWord ∷ decimal entities ∷ decimal rows ∷ []) ++ rowLines (min rows (wholeRows table)) table
-lines (refused number place) table = line (refuseWord ∷ decimal number ∷ decimal place ∷ [])
+    line (ascii "accept" ∷ decimal entities ∷ decimal rows ∷ []) ++ rowLines (min rows (wholeRows table)) table
+lines (refused number place) table = line (ascii "refuse" ∷ decimal number ∷ decimal place ∷ [])
 
 -- The lines of a result
 abbrev pub resultLines : Result → List ℕ
@@ -60,7 +49,7 @@ resultLines r = lines (r .answer) (r .table)
 
 -- The listing of the bytes s
 unfoldable pub listing : List ℕ → List ℕ
-listing s = cond (leb (length s) mostBytes) (resultLines (reading s lentTable)) (line (longWord ∷ []))
+listing s = cond (leb (length s) mostBytes) (resultLines (reading s lentTable)) (line (ascii "long" ∷ []))
 
 -- No listing is longer: a line for the counts of 20 digits at most, and a line for each row with numbers of 10 digits at most
 abbrev pub mostListed : ℕ

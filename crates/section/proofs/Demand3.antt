@@ -2,14 +2,14 @@
 use Prim.Native.Nat.{ℕ, zero, suc, _+_, _≤_}
 use native.Mathlib.Omega.{arith}
 use mathlib.Core.Bool.{Bool, true, false, cond}
-use mathlib.Core.List.{List, [], _∷_}
+use mathlib.Core.List.{List, [], _∷_, _++_, append-assoc}
 use mathlib.Core.Path.{_≡_, refl, ap, _∙_}
 use lib.Dec.{leb, ltb}
-use lib.ListN.{length, getD, take, drop}
+use lib.ListN.{length, getD, take, drop, replicate, replicate-append-replicate}
 use Rattle.layout.specs.Layout.{Sort, Kind, Tag, Flag, Number, Count, Verdict, fine, wrong, unknown-kind, unknown-tag, other-mapping, error-result, Layout, nothing, one, text, _then_, case, check, leaves}
 use Rattle.layout.specs.Reading.{Outcome, ok, refuse, _>>=_, need, judged, walk, utf8, enough, numberAt, byteAt, fourAt, plainAt, textAt, inBytes, readValue, read}
 use Rattle.layout.specs.Entities.{Entity}
-use Rattle.layout.specs.Answers.{refusal, tell}
+use Rattle.layout.specs.Answers.{Given, refusal, tell}
 use Rattle.layout.specs.Alone.{limit}
 use Rattle.layout.specs.Theorems.{Bytes}
 use Rattle.layout.proofs.Walk.{all-bind}
@@ -19,7 +19,7 @@ use Rattle.section.specs.Framing.{allZero, Part, Parts, boundary, bounda
 use Rattle.section.specs.Section.{same, readEntity, readPayload, readPayloads, readSection, sectionGiven, reading}
 use Rattle.section.specs.Refusals.{Refusal}
 use Rattle.section.specs.Demand3.{Good, gives}
-use Rattle.section.specs.Theorems.{Reading-meets, Reading-only}
+use Rattle.section.specs.Theorems.{Reading-meets, Reading-only, Table-free, Padding-free}
 use Rattle.section.proofs.Derivation.{derivation-unique}
 use Rattle.section.proofs.Section.{section-complete, section-sound, section-exact}
 use Rattle.section.proofs.Refusals.{refusal-exact, refusal-one}
@@ -159,3 +159,24 @@ reading-only s u table r t =
           let (n, p, h, a, b, e) = t .others none in
           e ∙ rw (refusal-exact s u n p .1 h);
     })
+
+tell-free : (m : Outcome ℕ Given) (table other : List ℕ) → length table ≡ length other → tell m table ≡ tell m other
+tell-free (ok g end) table other e = rw e
+tell-free (refuse n p) table other e = rw e
+
+pub table-free : Table-free
+unfolding reading
+table-free s table other e = tell-free (sectionGiven s) table other e
+
+-- More padding derives more zeros
+more-padding : (s : List ℕ) (d : Derivation) → Good s d → (k : ℕ) → length (s ++ replicate k 0) ≤ limit
+    → Good (s ++ replicate k 0) (record { items = d .items; padding = d .padding + k })
+more-padding s d g k h =
+    record {
+      small = h;
+      by = record { proper = g .by .proper; derives = rw (← g .by .derives, append-assoc, replicate-append-replicate) };
+    }
+
+pub padding-free : Padding-free
+unfolding reading
+padding-free s d g k h table = rw (section-complete (s ++ replicate k 0) _ (more-padding s d g k h), section-complete s d g)

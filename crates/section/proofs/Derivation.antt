@@ -1,7 +1,7 @@
 -- What a derivation derives: its length, and that it determines the derivation.
 use Prim.Native.Nat.{ℕ, zero, suc, _+_, _*_, _/_, _%_, _≤_, _<_}
 use native.Mathlib.Omega.{arith}
-use mathlib.Core.List.{List, [], _∷_, _++_, append-assoc, head-eq-of-cons-eq, tail-eq-of-cons-eq}
+use mathlib.Core.List.{List, [], _∷_, _++_, map, append-assoc, head-eq-of-cons-eq, tail-eq-of-cons-eq}
 use mathlib.Core.Path.{_≡_, refl, sym, ap, _∙_}
 use lib.ListN.{length, getD, replicate, length-append, length-replicate}
 use Rattle.layout.specs.Layout.{Kind, Tag, Flag, Number, Count, Leaf, plain, string, Value, leaves, Proper}
@@ -10,8 +10,8 @@ use Rattle.layout.specs.Entities.{Entity}
 use Rattle.layout.proofs.Numbers.{number-four}
 use Rattle.layout.proofs.Rows.{leaves-bytes}
 use Rattle.layout.proofs.InBytes.{value-unique}
-use Rattle.section.specs.Derivation.{Item, sentinel, entity, payload, entry, entries, ProperItem, ProperItems, Placed, placed, leafCount, entitiesOf, sentinels, leafSize, leafSizes, entitySizes}
-use Rattle.section.specs.Theorems.{Derivation-unique, Byte-sum, Rows-bound}
+use Rattle.section.specs.Derivation.{Item, sentinel, entity, sentinelBytes, payload, entry, entries, ProperItem, ProperItems, Placed, placed, leafCount, entitiesOf, sentinels, leafSize, leafSizes, entitySizes}
+use Rattle.section.specs.Theorems.{Derivation-unique, Byte-sum, Rows-bound, Sentinel-free}
 
 -- Sizes
 leafSize-bytes : (x : Leaf) → length (leafBytes x) ≡ leafSize x
@@ -114,3 +114,14 @@ pub derivation-unique : Derivation-unique
 derivation-unique s d e p q =
     let h = entries-unique (d .items) (e .items) (d .padding) (e .padding) (p .proper) (q .proper) (p .derives ∙ sym (q .derives)) in
     λ k. record { items = h .0 k; padding = h .1 k }
+
+-- Sentinels
+leaves-anywhere : (at to : ℕ) (is : List Item) → map (λ (e : Placed). e .leaves) (placed at is) ≡ map (λ (e : Placed). e .leaves) (placed to is)
+leaves-anywhere at to [] = refl
+leaves-anywhere at to (sentinel ∷ is) = leaves-anywhere (at + 4 + length sentinelBytes) (to + 4 + length sentinelBytes) is
+leaves-anywhere at to (entity v ∷ is) = ap (λ (l : List (List Leaf)). leaves Entity v ∷ l) (leaves-anywhere (at + 4 + length (bytes Entity v)) (to + 4 + length (bytes Entity v)) is)
+
+pub sentinel-free : Sentinel-free
+sentinel-free at [] after = leaves-anywhere (at + 4 + length sentinelBytes) at after
+sentinel-free at (sentinel ∷ is) after = sentinel-free (at + 4 + length sentinelBytes) is after
+sentinel-free at (entity v ∷ is) after = ap (λ (l : List (List Leaf)). leaves Entity v ∷ l) (sentinel-free (at + 4 + length (bytes Entity v)) is after)

@@ -1,13 +1,14 @@
 -- What is proved of the definitions, as statements. Each comment names the proof, in proofs/.
 use Prim.Native.Nat.{ℕ, _+_, _*_, _≤_}
-use mathlib.Core.List.{List}
+use mathlib.Core.List.{List, _∷_, _++_, map}
 use mathlib.Core.Logic.{_↔_}
 use mathlib.Core.Path.{_≡_}
-use lib.ListN.{length}
+use lib.ListN.{length, replicate}
 use Rattle.layout.specs.Reading.{ok, refuse}
 use Rattle.layout.specs.Answers.{Result}
+use Rattle.layout.specs.Alone.{limit}
 use Rattle.layout.specs.Theorems.{Bytes}
-use Rattle.section.specs.Derivation.{Placed, Derivation, derive, leafCount, entitiesOf, sentinels, entitySizes}
+use Rattle.section.specs.Derivation.{Item, sentinel, Placed, Derivation, derive, placed, leafCount, entitiesOf, sentinels, entitySizes}
 use Rattle.section.specs.Section.{readSection, reading}
 use Rattle.section.specs.Refusals.{Refusal}
 use Rattle.section.specs.Demand3.{DerivedBy, Good, Demand3}
@@ -43,3 +44,19 @@ Reading-meets = (s : List ℕ) → Bytes s → (table : List ℕ) → Demand3 s 
 -- And nothing else does: `reading-only` in Demand3.antt
 abbrev pub Reading-only : Type 0
 Reading-only = (s : List ℕ) → Bytes s → (table : List ℕ) (r : Result) → Demand3 s table r → r ≡ reading s table
+
+-- What stood in the table before plays no part, but for its length: `table-free` in Demand3.antt
+abbrev pub Table-free : Type 0
+Table-free = (s table other : List ℕ) → length table ≡ length other → reading s table ≡ reading s other
+
+-- More padding changes neither counts nor rows: `padding-free` in Demand3.antt
+abbrev pub Padding-free : Type 0
+Padding-free =
+    (s : List ℕ) (d : Derivation) → Good s d → (k : ℕ) → length (s ++ replicate k 0) ≤ limit
+    → (table : List ℕ) → reading (s ++ replicate k 0) table ≡ reading s table
+
+-- A sentinel is no entity, and changes nothing of the entities behind it but their places: `sentinel-free` in Derivation.antt
+abbrev pub Sentinel-free : Type 0
+Sentinel-free =
+    (at : ℕ) (before after : List Item)
+    → map (λ (e : Placed). e .leaves) (placed at (before ++ (sentinel ∷ after))) ≡ map (λ (e : Placed). e .leaves) (placed at (before ++ after))

@@ -29,7 +29,7 @@ const SORT_NUMBER: u32 = 4;
 
 const SORT_COUNT: u32 = 5;
 
-const SORT_TEXT: u32 = 6;
+pub const SORT_TEXT: u32 = 6;
 
 // What a reading answers: the numbers of entities and of rows, or a refusal's number and place.
 pub enum Answer {

@@ -1,0 +1,5 @@
+pub mod RowText
+pub mod SqlName
+pub mod Numeric
+pub mod Places
+pub mod SqlText

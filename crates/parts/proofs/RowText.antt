@@ -1,0 +1,123 @@
+-- The text of a row, from the tests on the row.
+use Prim.Native.Nat.{ℕ, _+_, _-_, _≤_, _<_}
+use native.Mathlib.Omega.{arith}
+use mathlib.Core.Bool.{Bool, true, false, _&&_}
+use mathlib.Core.List.{List, [], _∷_}
+use mathlib.Core.Path.{_≡_, refl, sym, ap, _∙_}
+use lib.Dec.{leb, eqb}
+use lib.ListN.{length, take, drop, length-drop}
+use lib.Seq.{length-take-le}
+use borrow.Author.Tests.{leb-true, le-leb, lt-leb, eq-eqb, ne-eqb}
+use Rattle.layout.specs.Layout.{string, text}
+use Rattle.layout.specs.Reading.{Outcome, ok, refuse, _>>=_, need, utf8, enough, numberAt, bodyAt, read}
+use Rattle.layout.specs.Alone.{limit}
+use Rattle.layout.proofs.Equations.{read-text}
+use Rattle.parts.specs.declared.Row.{Row}
+use Rattle.parts.specs.Parts.{isText, rowText, partOf, numberIn, placeIn}
+use Rattle.parts.specs.Theorems.{Row-lies, Row-part}
+use Rattle.text.specs.Walk as automaton
+
+module _ (s : List ℕ) (row : Row) where
+  pub long : limit < length s → rowText s row ≡ refuse 1 0
+  unfolding rowText
+  long h = rw (lt-leb (length s) limit h)
+
+  module _ (small : length s ≤ limit) where
+    pub other-sort : (row .sort ≡ 6 → ⊥) → rowText s row ≡ refuse 15 0
+    unfolding rowText
+    other-sort h = rw (le-leb (length s) limit small, ne-eqb (row .sort) 6 h)
+
+    module _ (z : row .sort ≡ 6) where
+      pub outside : length s < row .offset + row .value → rowText s row ≡ refuse 15 0
+      unfolding rowText
+      outside h = rw (le-leb (length s) limit small, eq-eqb (row .sort) 6 z, lt-leb (row .offset + row .value) (length s) h)
+
+      module _ (h : row .offset + row .value ≤ length s) (x : ℕ) (q : x ≡ row .value) where
+        pub not-utf8 : automaton.utf8 (take x (drop (row .offset) s)) ≡ false → rowText s row ≡ refuse 15 0
+        unfolding rowText utf8
+        not-utf8 u = rw (le-leb (length s) limit small, eq-eqb (row .sort) 6 z, le-leb (row .offset + row .value) (length s) h, ← q, u)
+
+        pub is-text : automaton.utf8 (take x (drop (row .offset) s)) ≡ true → rowText s row ≡ ok (row .offset) (row .offset + row .value)
+        unfolding rowText utf8
+        is-text u = rw (le-leb (length s) limit small, eq-eqb (row .sort) 6 z, le-leb (row .offset + row .value) (length s) h, ← q, u)
+
+  -- A row's refusals all have place 0
+  pub place-0 : placeIn (rowText s row) ≡ 0
+  unfolding rowText
+  place-0 = go (leb (length s) limit) (isText s row)
+    where
+      go : (a b : Bool) → placeIn (need a 1 0 (need b 15 0 (ok (row .offset) (row .offset + row .value)))) ≡ 0
+      go true true = refl
+      go true false = refl
+      go false b = refl
+
+  pub refused-empty : (numberIn (rowText s row) ≡ 0 → ⊥) → [] ≡ partOf s (rowText s row)
+  refused-empty h = go (rowText s row) h
+    where
+      go : (o : Outcome ℕ ℕ) → (numberIn o ≡ 0 → ⊥) → [] ≡ partOf s o
+      go (ok start end) h = absurd (h refl)
+      go (refuse n p) h = refl
+
+  -- A row that is not refused
+  pub accepted : numberIn (rowText s row) ≡ 0 → (row .offset + row .value ≤ length s) × (rowText s row ≡ ok (row .offset) (row .offset + row .value))
+  unfolding rowText
+  accepted h = go (leb (length s) limit) (eqb (row .sort) 6) (enough s (row .offset) (row .value)) (utf8 (take (row .value) (drop (row .offset) s))) refl h
+    where
+      go : (a b x y : Bool) → enough s (row .offset) (row .value) ≡ x → numberIn (need a 1 0 (need (b && (x && y)) 15 0 (ok (row .offset) (row .offset + row .value)))) ≡ 0
+          → (row .offset + row .value ≤ length s) × (need a 1 0 (need (b && (x && y)) 15 0 (ok (row .offset) (row .offset + row .value))) ≡ ok (row .offset) (row .offset + row .value))
+      go true true true true e h = (leb-true (row .offset + row .value) (length s) e, refl)
+      go true true true false e h = absurd (omega arith)
+      go true true false y e h = absurd (omega arith)
+      go true false x y e h = absurd (omega arith)
+      go false b x y e h = absurd (omega arith)
+
+pub row-lies : Row-lies
+row-lies s row start end e =
+    let z : numberIn (rowText s row) ≡ 0 = ap numberIn e in
+    let (h, k) = accepted s row z in
+    let q : _≡_ {A = Outcome ℕ ℕ} (ok start end) (ok (row .offset) (row .offset + row .value)) = sym e ∙ k in
+    let a : start ≡ row .offset = cc in
+    let b : end ≡ row .offset + row .value = cc in
+    (omega arith, omega arith)
+
+-- What is read as a text
+read-body : (s : List ℕ) (at : ℕ) (t : List ℕ) (end : ℕ) → read text s at ≡ ok (string t ∷ []) end
+    → (at + 4 + length t ≤ length s) × (utf8 t ≡ true) × (take (length t) (drop (at + 4) s) ≡ t)
+read-body s at t end e = fits (enough s at 4) (sym (read-text s at) ∙ e)
+  where
+    n : ℕ
+    n = numberAt s at
+
+    body : List ℕ
+    body = take n (drop (at + 4) s)
+
+    Answer : Outcome ℕ (List ℕ) → Type 0
+    Answer o = (o >>= λ t₁ k. ok (string t₁ ∷ []) k) ≡ ok (string t ∷ []) end
+
+    valid : (b : Bool) → utf8 body ≡ b → at + 4 + n ≤ length s → Answer (need b 7 (at + 4) (ok body (at + 4 + n)))
+        → (at + 4 + length t ≤ length s) × (utf8 t ≡ true) × (take (length t) (drop (at + 4) s) ≡ t)
+    valid true u h q =
+        let a : body ≡ t = cc in
+        let l : length t ≡ n = sym (ap length a) ∙ length-take-le n (drop (at + 4) s) (omega (arith, length-drop (at + 4) s)) in
+        (omega arith, rw (← a) u, rw l a)
+    valid false u h q = absurd (let z : _≡_ {A = ℕ} 0 1 = cc in omega arith)
+
+    long-enough : (b : Bool) → enough s (at + 4) n ≡ b → Answer (need b 5 (at + 4) (need (utf8 body) 7 (at + 4) (ok body (at + 4 + n))))
+        → (at + 4 + length t ≤ length s) × (utf8 t ≡ true) × (take (length t) (drop (at + 4) s) ≡ t)
+    long-enough true h q = valid (utf8 body) refl (leb-true _ _ h) q
+    long-enough false h q = absurd (let z : _≡_ {A = ℕ} 0 1 = cc in omega arith)
+
+    fits : (b : Bool) → Answer (need b 5 at (ok n (at + 4)) >>= λ m at₁. bodyAt s m at₁)
+        → (at + 4 + length t ≤ length s) × (utf8 t ≡ true) × (take (length t) (drop (at + 4) s) ≡ t)
+    fits true q = long-enough (enough s (at + 4) n) refl q
+    fits false q = absurd (let z : _≡_ {A = ℕ} 0 1 = cc in omega arith)
+
+pub row-part : Row-part
+unfolding rowText
+row-part s small at t end e row q =
+    let (h, u, k) = read-body s at t end e in
+    let a : row .sort ≡ 6 = cc in
+    let b : row .offset ≡ at + 4 = cc in
+    let d : row .value ≡ length t = cc in
+    let m : at + 4 + length t - (at + 4) ≡ length t = omega arith in
+    rw (a, b, d, le-leb (length s) limit small, le-leb (at + 4 + length t) (length s) h, k, u, m, k)

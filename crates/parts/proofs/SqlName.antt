@@ -1,0 +1,68 @@
+-- The SQL name: one step from the left, and the end.
+use Prim.Native.Nat.{ℕ, suc, _+_, _-_, _≤_, _<_}
+use native.Mathlib.Omega.{arith}
+use mathlib.Core.Bool.{Bool, true, false, cond, _&&_}
+use mathlib.Core.List.{List, [], _∷_}
+use mathlib.Core.Path.{_≡_, refl, sym, ap, _∙_}
+use lib.Dec.{eqb}
+use lib.ListN.{length, getD, drop, length-drop}
+use lib.Seq.{drop-cons}
+use Rattle.parts.specs.Parts.{colon, afterLast, sqlName}
+use Rattle.parts.specs.Theorems.{Name-end, Name-cases}
+use Rattle.parts.specs.Private.{colonsAt}
+
+-- Two bytes at a place, and what follows them
+two-at : (s : List ℕ) (i : ℕ) → i + 1 < length s → drop i s ≡ getD s i 0 ∷ getD s (i + 1) 0 ∷ drop (i + 2) s
+two-at s i h =
+    let a : suc i ≡ i + 1 = omega arith in
+    let b : suc (i + 1) ≡ i + 2 = omega arith in
+    drop-cons s i 0 (omega arith) ∙ rw (a, drop-cons s (i + 1) 0 (omega arith), b)
+
+module _ (s last : List ℕ) (i : ℕ) where
+  pub at-match : i + 1 < length s → colonsAt s i ≡ true → afterLast last (drop i s) ≡ afterLast (drop (i + 2) s) (drop (i + 2) s)
+  at-match h e = rw (two-at s i h, e)
+
+  pub at-other : i + 1 < length s → colonsAt s i ≡ false → afterLast last (drop i s) ≡ afterLast last (drop (i + 1) s)
+  at-other h e =
+      let a : i + 2 ≡ suc (i + 1) = omega arith in
+      let q : getD s (i + 1) 0 ∷ drop (i + 2) s ≡ drop (i + 1) s = rw a (sym (drop-cons s (i + 1) 0 h)) in
+      ap (afterLast last) (two-at s i h) ∙ rw e (ap (afterLast last) q)
+
+  -- Fewer than two bytes hold no match
+  pub at-end : length s ≤ i + 1 → afterLast last (drop i s) ≡ last
+  at-end h = go (drop i s) (omega (arith, length-drop i s))
+    where
+      go : (l : List ℕ) → length l ≤ 1 → afterLast last l ≡ last
+      go [] k = refl
+      go (x ∷ []) k = refl
+      go (x ∷ y ∷ l) k = absurd (omega arith)
+
+-- l is the end of a name
+abbrev End : (name l : List ℕ) → Type 0
+End name l = (start : ℕ) × (start ≤ length name) × (l ≡ drop start name)
+
+end-rest : (name : List ℕ) (x : ℕ) (l : List ℕ) → End name (x ∷ l) → End name l
+end-rest name x l (k, h, e) =
+    let m : suc (length l) ≡ length name - k = ap length e ∙ length-drop k name in
+    let q : x ∷ l ≡ getD name k 0 ∷ drop (suc k) name = e ∙ drop-cons name k 0 (omega arith) in
+    (suc k, omega arith, cc)
+
+end-after : (name last l : List ℕ) → End name last → End name l → End name (afterLast last l)
+end-after name last [] a b = a
+end-after name last (x ∷ []) a b = a
+end-after name last (x ∷ y ∷ rest) a b =
+    let d = end-rest name x (y ∷ rest) b in
+    let f = end-rest name y rest d in
+    go (eqb x colon && eqb y colon) (end-after name rest rest f f) (end-after name last (y ∷ rest) a d)
+  where
+    go : (t : Bool) → End name (afterLast rest rest) → End name (afterLast last (y ∷ rest)) → End name (cond t (afterLast rest rest) (afterLast last (y ∷ rest)))
+    go true p q = p
+    go false p q = q
+
+pub name-end : Name-end
+unfolding sqlName
+name-end name = end-after name name name (0, omega arith, refl) (0, omega arith, refl)
+
+pub name-cases : Name-cases
+unfolding sqlName
+name-cases = (refl, refl, refl)

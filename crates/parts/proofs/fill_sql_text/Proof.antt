@@ -1,0 +1,68 @@
+-- Refused, As, or Numeric.
+use native.Mathlib.Nat.{zero-add}
+use native.Mathlib.Omega.{arith}
+use mathlib.Core.Path.{ap, _∙_}
+use borrow.Author.Needs.{needs}
+use Rattle.parts.proofs.Numeric.{text-length, text-taken, text-fits}
+use Rattle.parts.specs.SqlText.{filled}
+use Rattle.parts.specs.Parts.{numberIn, placeIn}
+use Rattle.parts.proofs.fill_sql_text.Statement.{statement}
+use Rattle.parts.proofs.fill_sql_text.Tie as tie
+
+find-sql-text-requires : tie.Need-find-sql-text-requires
+find-sql-text-requires c κs = search needs
+
+enum-known-found : tie.Need-enum-known-found
+enum-known-found c = search needs
+
+enum-told : tie.Need-enum-told
+enum-told c = search needs
+
+enum-known-found-2 : tie.Need-enum-known-found-2
+enum-known-found-2 c = search needs
+
+numeric-sql-string-requires : tie.Need-numeric-sql-string-requires
+numeric-sql-string-requires c κs = search needs
+
+array-share-prefix-bytes : tie.Need-array-share-prefix-bytes
+array-share-prefix-bytes c = text-fits _ _ (c .before .before .numeric-sql-string .ensures .0)
+
+slice-aggregate-put : tie.Need-slice-aggregate-put
+slice-aggregate-put c = let e = c .before .before .before .numeric-sql-string .ensures .0 in rw (text-taken _ _ e) (text-length _ _ e)
+
+put-requires : tie.Need-put-requires
+put-requires c κs =
+    let e = c .before .before .before .numeric-sql-string .ensures in let h = rw (c .before .before .before .before .before .found2 .given .1) at (c .before .before .before .before .before .before .before .find-sql-text .ensures) in
+    rw (text-taken _ _ (e .0)) (omega (arith, h .1, text-length _ _ (e .0), e .1))
+
+returns : tie.Need-returns
+returns c = let h = rw (c .before .found .given .1) at (c .before .before .before .find-sql-text .ensures) in (ap (filled _) (h .0), (ap numberIn (h .0), ap placeIn (h .0)))
+
+returns-2 : tie.Need-returns-2
+returns-2 c = let h = rw (c .enum-told .given .1) at (c .before .before .find-sql-text .ensures) in (ap (filled _) (h .0), (ap numberIn (h .0), ap placeIn (h .0)))
+
+same-length : tie.Need-same-length
+same-length c = search needs
+
+returns-3 : tie.Need-returns-3
+returns-3 c =
+    let h = rw (c .before .before .before .before .before .before .before .before .found2 .given .1) at (c .before .before .before .before .before .before .before .before .before .before .find-sql-text .ensures) in
+    let p = rw (text-taken _ _ (c .before .before .before .before .before .before .numeric-sql-string .ensures .0), zero-add) at (c .before .before .put .ensures .1) in
+    (p ∙ ap (filled _) (h .0), (ap numberIn (h .0), ap placeIn (h .0)))
+
+pub fill-sql-text-spec : {M : Type 1} → statement M
+fill-sql-text-spec =
+    tie.close
+    (tie.spec
+    find-sql-text-requires
+    enum-known-found
+    enum-told
+    enum-known-found-2
+    numeric-sql-string-requires
+    array-share-prefix-bytes
+    slice-aggregate-put
+    put-requires
+    returns
+    returns-2
+    same-length
+    returns-3)

@@ -1,0 +1,5 @@
+pub mod Parts
+pub mod Numeric
+pub mod SqlText
+pub mod Theorems
+pub mod Private

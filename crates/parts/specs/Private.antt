@@ -1,0 +1,42 @@
+-- What only the private functions of the crate promise one another. No public contract cites anything here.
+use Prim.Native.Nat.{ℕ, _+_, _*_, _≤_}
+use mathlib.Core.Bool.{Bool, cond, _&&_}
+use mathlib.Core.List.{List, _++_}
+use mathlib.Core.Path.{_≡_}
+use lib.Dec.{eqb}
+use lib.ListN.{length, getD, take, drop}
+use Rattle.layout.specs.Written.{rowWidth}
+use Rattle.layout.specs.Reading.{Outcome, ok, refuse}
+use Rattle.parts.specs.declared.Found.{Found}
+use Rattle.parts.specs.declared.Found.the-variants.{Refused, Stored, Numeric}
+use Rattle.parts.specs.Parts.{colon}
+use Rattle.parts.specs.Numeric.{numericText, numericSize, optionOf}
+use Rattle.parts.specs.SqlText.{SqlText, stored, numeric}
+
+-- Two colons stand at a place
+abbrev pub colonsAt : List ℕ → ℕ → Bool
+colonsAt s at = eqb (getD s at 0) colon && eqb (getD s (at + 1) 0) colon
+
+-- A list with another stored in it from an index on
+abbrev pub pasted : List ℕ → (at : ℕ) → List ℕ → List ℕ
+pasted out at text = take at out ++ text ++ drop (at + length text) out
+
+-- The value of a row of a table
+abbrev pub valueAt : List ℕ → (row : ℕ) → ℕ
+valueAt table row = getD table (rowWidth * row + 2) 0
+
+-- What the code found, as an outcome
+abbrev pub outcomeOf : Found → Outcome ℕ SqlText
+outcomeOf (Refused n p) = refuse n p
+outcomeOf (Stored start end) = ok (stored start) end
+outcomeOf (Numeric p q) = ok (numeric (numericText (optionOf p) (optionOf q))) (length (numericText (optionOf p) (optionOf q)))
+
+-- What was found, unless the buffer has another size
+abbrev pub sizedFor : ℕ → Found → Found
+sizedFor size found = cond (eqb size numericSize) found (Refused 17 0)
+
+-- What was found lies within bytes and buffer: a stored text ends in the section; a buffer for a Numeric text has its size
+abbrev pub Within : (section size : ℕ) → Found → Type 0
+Within section size (Refused n p) = Unit {0}
+Within section size (Stored start end) = (start ≤ end) × (end ≤ section)
+Within section size (Numeric p q) = size ≡ numericSize

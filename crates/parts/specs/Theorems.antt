@@ -1,0 +1,56 @@
+-- What is proved of the definitions, as statements. Each comment names the proof, in proofs/.
+use Prim.Native.Nat.{ℕ, _≤_}
+use mathlib.Core.List.{List, [], _∷_}
+use mathlib.Core.Option.{none, some}
+use mathlib.Core.Path.{_≡_}
+use lib.ListN.{length, drop}
+use Rattle.decimal.specs.Ascii.{ascii}
+use Rattle.layout.specs.Layout.{Tag, plain, string, text}
+use Rattle.layout.specs.Written.{rowAt}
+use Rattle.layout.specs.Entities.{SqlMapping}
+use Rattle.layout.specs.Reading.{ok, read}
+use Rattle.layout.specs.Alone.{limit}
+use Rattle.layout.specs.Theorems.{Bytes}
+use Rattle.parts.specs.declared.Row.{Row}
+use Rattle.parts.specs.Parts.{rowText, partOf, sqlName}
+use Rattle.parts.specs.Numeric.{numericText, numericSize}
+use Rattle.parts.specs.SqlText.{numeric, sqlText, sqlPartOf, filled}
+
+-- The text of a row lies in the bytes: `row-lies` in RowText.antt
+abbrev pub Row-lies : Type 0
+Row-lies = (s : List ℕ) (row : Row) (start end : ℕ) → rowText s row ≡ ok start end → (start ≤ end) × (end ≤ length s)
+
+-- The row of a text that was read gives that text: `row-part` in RowText.antt
+abbrev pub Row-part : Type 0
+Row-part =
+    (s : List ℕ) → length s ≤ limit → (at : ℕ) (t : List ℕ) (end : ℕ) → read text s at ≡ ok (string t ∷ []) end
+    → (row : Row) → row .sort ∷ row .offset ∷ row .value ∷ [] ≡ rowAt at (string t) → partOf s (rowText s row) ≡ t
+
+-- The SQL name is the end of the name: `name-end` in SqlName.antt
+abbrev pub Name-end : Type 0
+Name-end = (name : List ℕ) → (start : ℕ) × (start ≤ length name) × (sqlName name ≡ drop start name)
+
+-- Document 01's names: `name-cases` in SqlName.antt
+abbrev pub Name-cases : Type 0
+Name-cases =
+    (sqlName (ascii "a:::b") ≡ ascii ":b") × (sqlName (ascii "a::") ≡ []) × (sqlName (ascii "ab") ≡ ascii "ab")
+
+-- Precision 10 and scale 2: `numeric-both` in Numeric.antt
+abbrev pub Numeric-both : Type 0
+Numeric-both = numericText (some 10) (some 2) ≡ ascii "NUMERIC(10, 2)"
+
+-- No precision, and scale 5: `numeric-scale` in Numeric.antt
+abbrev pub Numeric-scale : Type 0
+Numeric-scale = numericText none (some 5) ≡ ascii "NUMERIC"
+
+-- The SQL text of As is the text that it stores: `as-part` in SqlText.antt
+abbrev pub As-part : Type 0
+As-part =
+    (s : List ℕ) → length s ≤ limit → Bytes s → (at : ℕ) (t : List ℕ) (end : ℕ) → read SqlMapping s at ≡ ok (plain Tag 1 ∷ string t ∷ []) end
+    → (buffer : List ℕ) → sqlPartOf s buffer (sqlText s at numericSize) ≡ t
+
+-- Of a buffer that was filled, the part is the Numeric text: `filled-part` in SqlText.antt
+abbrev pub Filled-part : Type 0
+Filled-part =
+    (s : List ℕ) (at size : ℕ) (t : List ℕ) (end : ℕ) → sqlText s at size ≡ ok (numeric t) end
+    → (buffer : List ℕ) → sqlPartOf s (filled buffer (sqlText s at size)) (sqlText s at size) ≡ t

@@ -122,6 +122,9 @@ numbered-section : (s : List ℕ) → Numbered (readSection s)
 unfolding readSection framing
 numbered-section s = numbered-need (leb (length s) limit) 1 0 _ (omega arith, omega arith) (numbered-bind (framing s) _ (numbered-boundaries (suc (length s)) s 0) λ ps end. numbered-payloads s end ps)
 
+pub refusal-numbered : (s : List ℕ) (n p : ℕ) → readSection s ≡ refuse n p → (1 ≤ n) × (n ≤ 12)
+refusal-numbered s n p e = number-of (rw e at (numbered-section s))
+
 -- What the reading finds is what a derivation gives
 finds : (s : List ℕ) → Bytes s → Finds (Good s) gives (sectionGiven s)
 finds s u = record {

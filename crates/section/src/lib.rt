@@ -25,9 +25,9 @@ pub enum Framed {
 }
 
 // What is read so far: where the reading stands, and the entities.
-pub struct Progress {
-    pub cursor: Cursor,
-    pub entities: usize,
+struct Progress {
+    cursor: Cursor,
+    entities: usize,
 }
 
 // Whether only zeros stand from a place on.

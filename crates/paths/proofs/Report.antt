@@ -1,0 +1,108 @@
+-- The report from the answer of a reading through any table.
+use Prim.Native.Nat.{ℕ, _≤_}
+use native.Mathlib.Omega.{arith}
+use mathlib.Core.Bool.{Bool, true, false, cond}
+use mathlib.Core.List.{List, []}
+use mathlib.Core.Path.{_≡_, refl, sym, ap, _∙_}
+use lib.Dec.{leb}
+use Rattle.layout.specs.Reading.{Outcome, ok, refuse}
+use Rattle.layout.specs.Answers.{Result, Given, wholeRows, acceptance, refusal}
+use Rattle.layout.specs.Theorems.{Bytes}
+use Rattle.layout.proofs.Walk.{all-ok}
+use Rattle.leaf.specs.Finish.{answerOf, resultOf}
+use Rattle.leaf.specs.declared.Answer.the-variants.{Accepted, Refused}
+use Rattle.section.specs.Derivation.{Derivation, Placed, leafCount, givenOf, entitiesOf}
+use Rattle.section.specs.Section.{readSection, reading}
+use Rattle.section.specs.Demand3.{Good}
+use Rattle.section.proofs.Section.{section-complete, section-sound}
+use Rattle.section.proofs.Refusals.{refusal-exact}
+use Rattle.section.proofs.Demand3.{refusal-numbered}
+use Rattle.paths.specs.Paths.{paths, pairs, counted, refused, report}
+use Rattle.paths.specs.Theorems.{Report-exact, Report-numbered}
+use Rattle.paths.specs.Private.{Rest, Counts}
+use Rattle.layout.specs.Answers as answers
+use Rattle.leaf.specs.declared.Answer as declared
+
+report-derived : (s : List ℕ) (d : Derivation) → Good s d → report s ≡ counted (pairs (paths (entitiesOf d)))
+unfolding report
+report-derived s d g = rw (section-complete s d g)
+
+module _ (s : List ℕ) (n p : ℕ) (e : readSection s ≡ refuse n p) where
+  report-refused : report s ≡ refused n p
+  unfolding report
+  report-refused = rw e
+
+  answer-is : (table : List ℕ) → reading s table .answer ≡ answers.refused n p
+  unfolding reading
+  answer-is table = rw e
+
+-- A derived section is refused by 13 alone
+thirteen : (b : Bool) (g : Given) (table : List ℕ) (n p : ℕ) → cond b (acceptance g table) (refusal 13 0 table) .answer ≡ answers.refused n p → n ≡ 13
+thirteen true g table n p q = let z : _≡_ {A = ℕ} 0 1 = cc in absurd (omega arith)
+thirteen false g table n p q = cc
+
+only-thirteen : (s : List ℕ) (es : List Placed) (end : ℕ) → readSection s ≡ ok es end → (table : List ℕ) (n p : ℕ) → reading s table .answer ≡ answers.refused n p → n ≡ 13
+unfolding reading
+only-thirteen s es end e table n p q = thirteen (leb (leafCount es) (wholeRows table)) (givenOf es) table n p (rw e at q)
+
+-- The whole section
+abbrev whole : (s : List ℕ) (d : Derivation) → Good s d → Rest s 0
+whole s d g = record { small = g .small; inside = omega arith; derivation = d; by = g .by }
+
+pub report-exact : Report-exact
+report-exact s u = (report-derived s, λ n p r. report-refused s n p (refusal-exact s u n p .1 r))
+
+pub report-numbered : Report-numbered
+unfolding report
+report-numbered s u n p q = go (readSection s) refl
+  where
+    go : (m : Outcome ℕ (List Placed)) → readSection s ≡ m → (1 ≤ n) × (n ≤ 12)
+    go (ok es end) e =
+        let k : counted (pairs (paths es)) ≡ refused n p = rw e at q in
+        let z : _≡_ {A = ℕ} 0 1 = cc in
+        absurd (omega arith)
+    go (refuse m t) e =
+        let k : refused m t ≡ refused n p = rw e at q in
+        let j : m ≡ n = cc in
+        rw (← j) (refusal-numbered s m t e)
+
+-- No refusal of 1 to 12 is met
+abbrev pub Passes : declared.Answer → Type 0
+Passes (Accepted entities rows) = Unit {0}
+Passes (Refused number place) = number ≡ 13
+
+-- From the answer r of the reading through any table
+module _ (s : List ℕ) (u : Bytes s) (table after : List ℕ) (r : declared.Answer) (e : resultOf r after ≡ reading s table) where
+  answer-read : (v : declared.Answer) → r ≡ v → reading s table .answer ≡ answerOf v
+  answer-read v q = sym (ap (λ (x : Result). x .answer) e) ∙ ap answerOf q
+
+  derived : (v : declared.Answer) → r ≡ v → Passes v → (d : Derivation) × Good s d
+  derived v q h = go (readSection s) refl v (answer-read v q) h
+    where
+      go : (m : Outcome ℕ (List Placed)) → readSection s ≡ m → (v : declared.Answer) → reading s table .answer ≡ answerOf v → Passes v → (d : Derivation) × Good s d
+      go (ok es end) k v q h = let d = all-ok (section-sound s u) k in (d .0, d .1)
+      go (refuse n p) k (Accepted entities rows) q h =
+          let i = answer-is s n p k table in
+          let z : _≡_ {A = ℕ} 0 1 = cc in
+          absurd (omega arith)
+      go (refuse n p) k (Refused number place) q h =
+          let i = answer-is s n p k table in
+          let j : n ≡ number = cc in
+          absurd (omega (arith, refusal-numbered s n p k .1))
+
+  pub passed : (v : declared.Answer) → r ≡ v → Passes v → Rest s 0
+  passed v q h = let (d, g) = derived v q h in whole s d g
+
+  pub report-passed : (v : declared.Answer) → r ≡ v → Passes v → (n : ℕ) → Counts s 0 n → counted n ≡ report s
+  report-passed v q h n k = let (d, g) = derived v q h in ap counted (k (whole s d g)) ∙ sym (report-derived s d g)
+
+  pub report-stopped : (n p : ℕ) → r ≡ Refused n p → (n ≡ 13 → ⊥) → refused n p ≡ report s
+  report-stopped n p q h = go (readSection s) refl
+    where
+      go : (m : Outcome ℕ (List Placed)) → readSection s ≡ m → refused n p ≡ report s
+      go (ok es end) k = absurd (h (only-thirteen s es end k table n p (answer-read (Refused n p) q)))
+      go (refuse m t) k =
+          let i = answer-is s m t k table in
+          let l = answer-read (Refused n p) q in
+          let j : (n ≡ m) × (p ≡ t) = (cc, cc) in
+          rw (j .0, j .1) (sym (report-refused s m t k))

@@ -1,0 +1,105 @@
+-- Each kind with a full_path, and the rest.
+use native.Mathlib.Omega.{arith}
+use mathlib.Core.Path.{sym, _∙_}
+use borrow.Author.Needs.{needs}
+use denote.Ref.{now}
+use Rattle.paths.proofs.Fields.{place-in, place-none}
+use Rattle.paths.proofs.full_path.Statement.{statement}
+use Rattle.paths.proofs.full_path.Tie as tie
+
+shared-slice-read-kind : tie.Need-shared-slice-read-kind
+shared-slice-read-kind c = search needs
+
+cast-kind : tie.Need-cast-kind
+cast-kind c = omega (arith, c .shared-slice-known2 .given (c .before .before .args .payload))
+
+add-at : tie.Need-add-at
+add-at c = search needs
+
+behind-two-texts-requires : tie.Need-behind-two-texts-requires
+behind-two-texts-requires c κs = search needs
+
+behind-two-texts-requires-2 : tie.Need-behind-two-texts-requires-2
+behind-two-texts-requires-2 c κs = search needs
+
+behind-text-requires : tie.Need-behind-text-requires
+behind-text-requires c κs = search needs
+
+behind-name-file-line-requires : tie.Need-behind-name-file-line-requires
+behind-name-file-line-requires c κs = search needs
+
+behind-text-requires-2 : tie.Need-behind-text-requires-2
+behind-text-requires-2 c κs = search needs
+
+behind-name-file-line-requires-2 : tie.Need-behind-name-file-line-requires-2
+behind-name-file-line-requires-2 c κs = search needs
+
+behind-text-requires-3 : tie.Need-behind-text-requires-3
+behind-text-requires-3 c κs = search needs
+
+behind-name-file-line-requires-3 : tie.Need-behind-name-file-line-requires-3
+behind-name-file-line-requires-3 c κs = search needs
+
+behind-name-file-line-requires-4 : tie.Need-behind-name-file-line-requires-4
+behind-name-file-line-requires-4 c κs = search needs
+
+behind-name-file-line-requires-5 : tie.Need-behind-name-file-line-requires-5
+behind-name-file-line-requires-5 c κs = search needs
+
+behind-text-requires-4 : tie.Need-behind-text-requires-4
+behind-text-requires-4 c κs = search needs
+
+returns : tie.Need-returns
+returns c = c .behind-two-texts .ensures .0 ∙ sym (place-in (now (c .before .before .before .before .args .s)) (c .before .before .before .before .args .payload) 2 (c .before .match .keys1))
+
+returns-2 : tie.Need-returns-2
+returns-2 c = rw (c .before .behind-two-texts2 .ensures .0) at (c .behind-text .ensures .0) ∙ sym (place-in (now (c .before .before .before .before .before .args .s)) (c .before .before .before .before .before .args .payload) 3 (c .before .before .match .keys2))
+
+returns-3 : tie.Need-returns-3
+returns-3 c = rw (c .before .behind-name-file-line .ensures .0) at (c .behind-text2 .ensures .0) ∙ sym (place-in (now (c .before .before .before .before .before .args .s)) (c .before .before .before .before .before .args .payload) 4 (c .before .before .match .keys3))
+
+returns-4 : tie.Need-returns-4
+returns-4 c = rw (c .before .behind-name-file-line2 .ensures .0) at (c .behind-text3 .ensures .0) ∙ sym (place-in (now (c .before .before .before .before .before .args .s)) (c .before .before .before .before .before .args .payload) 5 (c .before .before .match .keys4))
+
+returns-5 : tie.Need-returns-5
+returns-5 c = c .behind-name-file-line3 .ensures .0 ∙ sym (place-in (now (c .before .before .before .before .args .s)) (c .before .before .before .before .args .payload) 6 (c .before .match .keys5))
+
+returns-6 : tie.Need-returns-6
+returns-6 c = c .behind-name-file-line4 .ensures .0 ∙ sym (place-in (now (c .before .before .before .before .args .s)) (c .before .before .before .before .args .payload) 7 (c .before .match .keys6))
+
+returns-7 : tie.Need-returns-7
+returns-7 c = sym (place-in (now (c .before .before .before .args .s)) (c .before .before .before .args .payload) 8 (c .match .keys7))
+
+returns-8 : tie.Need-returns-8
+returns-8 c = rw (c .before .behind-name-file-line5 .ensures .0) at (c .behind-text4 .ensures .0) ∙ sym (place-in (now (c .before .before .before .before .before .args .s)) (c .before .before .before .before .before .args .payload) 9 (c .before .before .match .keys8))
+
+returns-9 : tie.Need-returns-9
+returns-9 c = let r = c .match .rest in sym (place-none (now (c .before .before .before .args .s)) (c .before .before .before .args .payload) (r .0 .0 .0 .0 .0 .0 .0 .1, (r .0 .0 .0 .0 .0 .0 .1, (r .0 .0 .0 .0 .0 .1, (r .0 .0 .0 .0 .1, (r .0 .0 .0 .1, (r .0 .0 .1, (r .0 .1, (r .1, tt)))))))))
+
+pub full-path-spec : {M : Type 1} → statement M
+full-path-spec =
+    tie.close
+    (tie.spec
+    shared-slice-read-kind
+    cast-kind
+    add-at
+    behind-two-texts-requires
+    behind-two-texts-requires-2
+    behind-text-requires
+    behind-name-file-line-requires
+    behind-text-requires-2
+    behind-name-file-line-requires-2
+    behind-text-requires-3
+    behind-name-file-line-requires-3
+    behind-name-file-line-requires-4
+    behind-name-file-line-requires-5
+    behind-text-requires-4
+    returns
+    returns-2
+    returns-3
+    returns-4
+    returns-5
+    returns-6
+    returns-7
+    returns-8
+    returns-9)

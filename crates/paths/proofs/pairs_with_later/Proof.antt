@@ -1,0 +1,73 @@
+-- No full_path; or the pairs with the entries passed, with those of the rest.
+use Prim.Native.Nat.{_-_}
+use native.Mathlib.Omega.{arith}
+use lib.ListN.{length}
+use denote.Ref.{now}
+use Rattle.paths.proofs.Walk.{path-in, Later, later-holds, later-step, later-again, later-ends, none-counted}
+use Rattle.paths.proofs.pairs_with_later.Statement.{statement}
+use Rattle.paths.proofs.pairs_with_later.Tie as tie
+
+abbrev Inv-loop : tie.InvT-loop
+Inv-loop s payload next path at₀ count₀ size₀ at count size = Later s next path at count size
+
+abbrev μ-loop : tie.MeasureT-loop
+μ-loop s payload next path at₀ count₀ size₀ at count size = length s - at
+
+full-path-requires : tie.Need-full-path-requires Inv-loop μ-loop
+full-path-requires c κs = c .before .pre .0
+
+returns : tie.Need-returns Inv-loop μ-loop
+returns c = none-counted (now (c .before .before .before .args .s)) (c .before .before .before .args .payload) (c .before .before .before .args .next) (c .before .full-path .result) (c .before .full-path .ensures) (c .if1 .taken)
+
+length-at-requires : tie.Need-length-at-requires Inv-loop μ-loop
+length-at-requires c κs = tt
+
+loop-holds : tie.Need-loop-holds Inv-loop μ-loop
+loop-holds c = later-holds (path-in (now (c .before .before .before .before .args .s)) (c .before .before .before .before .args .payload) (c .before .before .full-path .result) (c .before .before .full-path .ensures) (c .before .before .before .before .pre .0) (c .before .if1 .left)) (c .before .before .before .before .pre .1) (c .length-at .result) (c .length-at .ensures)
+
+add-other : tie.Need-add-other Inv-loop μ-loop
+add-other c = let t = later-step (c .before .loop .inv) (c .loop-test .taken) in omega (arith, t .payload-in .begins, t .payload-in .small)
+
+pair-requires : tie.Need-pair-requires Inv-loop μ-loop
+pair-requires c κs = (c .before .loop .inv .text, later-step (c .before .loop .inv) (c .loop-test .taken) .payload-in)
+
+add-count : tie.Need-add-count Inv-loop μ-loop
+add-count c = omega (arith, c .before .before .loop .inv .bound, c .before .before .loop .inv .rest .inside, c .before .before .loop .inv .rest .small, c .pair .ensures .1)
+
+cast-at : tie.Need-cast-at Inv-loop μ-loop
+cast-at c = let t = later-step (c .before .before .loop .inv) (c .before .loop-test .taken) in omega (arith, t .rest .inside, t .rest .small)
+
+add-at : tie.Need-add-at Inv-loop μ-loop
+add-at c = let t = later-step (c .before .before .loop .inv) (c .before .loop-test .taken) in omega (arith, t .rest .inside, t .rest .small)
+
+length-at-requires-2 : tie.Need-length-at-requires-2 Inv-loop μ-loop
+length-at-requires-2 c κs = tt
+
+loop-less : tie.Need-loop-less Inv-loop μ-loop
+loop-less c = let t = later-step (c .before .before .before .loop .inv) (c .before .before .loop-test .taken) in omega (arith, t .rest .inside)
+
+loop-again : tie.Need-loop-again Inv-loop μ-loop
+loop-again c = later-again (c .before .before .before .loop .inv) (c .before .before .loop-test .taken) (c .before .pair .result) (c .length-at2 .result) (c .before .pair .ensures .0) (c .before .pair .ensures .1) (c .length-at2 .ensures)
+
+returns-2 : tie.Need-returns-2 Inv-loop μ-loop
+returns-2 c = later-ends (c .before .loop .inv) (c .before .before .before .before .before .before .args .payload) (c .before .before .before .before .full-path .ensures) (c .before .before .before .if1 .left) (c .loop-test .left)
+
+pub pairs-with-later-spec : {M : Type 1} → statement M
+pairs-with-later-spec =
+    tie.close
+    (tie.spec
+    Inv-loop
+    μ-loop
+    full-path-requires
+    returns
+    length-at-requires
+    loop-holds
+    add-other
+    pair-requires
+    add-count
+    cast-at
+    add-at
+    length-at-requires-2
+    loop-less
+    loop-again
+    returns-2)

@@ -1,0 +1,79 @@
+-- The path report: document 01, "Added to the crate".
+use Prim.Native.Nat.{ℕ, zero, suc, _+_}
+use mathlib.Core.Bool.{cond}
+use mathlib.Core.List.{List, [], _∷_, _++_, map}
+use lib.Dec.{eqb}
+use lib.ListN.{getD}
+use Rattle.layout.specs.Layout.{Leaf, plain, string}
+use Rattle.layout.specs.Entities.{valueIn}
+use Rattle.layout.specs.Reading.{Outcome, ok, refuse}
+use Rattle.section.specs.Derivation.{Placed}
+use Rattle.section.specs.Section.{same, readSection}
+use Rattle.paths.specs.declared.PathReport.{PathReport}
+use Rattle.paths.specs.declared.PathReport.the-variants.{Counted, Refused}
+
+-- A kind, and which of its fields is full_path, from 1. A schema has none. Each field up to full_path is one leaf, a text or a number
+abbrev pub fullPathFields : List (ℕ × ℕ)
+fullPathFields =
+    (2, 3)  -- custom SQL: T sql, module_path, full_path
+    ∷ (3, 4)  -- function: T name, unaliased_name, module_path, full_path
+    ∷ (4, 5)  -- type: T name, file; N line; T module_path, full_path
+    ∷ (5, 5)  -- enum: T name, file; N line; T module_path, full_path
+    ∷ (6, 4)  -- ord: T name, file; N line; T full_path
+    ∷ (7, 4)  -- hash: T name, file; N line; T full_path
+    ∷ (8, 1)  -- aggregate: T full_path
+    ∷ (9, 5)  -- trigger: T function_name, file; N line; T module_path, full_path
+    ∷ []
+
+-- The field that a table has for a kind, 0 for a kind that is not there
+abbrev pub fieldOf : List (ℕ × ℕ) → ℕ → ℕ
+fieldOf [] kind = 0
+fieldOf (row ∷ rows) kind = cond (eqb kind (row .0)) (row .1) (fieldOf rows kind)
+
+-- The bytes of a leaf that is a text
+abbrev pub textOf : Leaf → List ℕ
+textOf (plain srt n) = []
+textOf (string t) = t
+
+-- The text that is a field of an entity, if the field is there. The first leaf is the kind, the next the first field
+abbrev pub textField : List Leaf → ℕ → List (List ℕ)
+textField ls zero = []
+textField ls (suc i) = getD (map textOf ls) (suc i) [] ∷ []
+
+-- The full_path of an entity with these leaves, if it has one
+abbrev pub fullPath : List Leaf → List (List ℕ)
+fullPath ls = textField ls (fieldOf fullPathFields (valueIn ls 0))
+
+-- The full_path texts of entities, in order
+abbrev pub paths : List Placed → List (List ℕ)
+paths [] = []
+paths (e ∷ es) = fullPath (e .leaves) ++ paths es
+
+-- How many of some texts have the bytes of t
+abbrev pub equals : List ℕ → List (List ℕ) → ℕ
+equals t [] = 0
+equals t (u ∷ us) = cond (same t u) 1 0 + equals t us
+
+-- The number of unordered pairs of texts with the same bytes: each with those after it
+abbrev pub pairs : List (List ℕ) → ℕ
+pairs [] = 0
+pairs (t ∷ ts) = equals t ts + pairs ts
+
+-- A report: the number of pairs, or a refusal's number and place
+pub data Report : Type 0 where
+  counted : (pairs : ℕ) → Report
+  refused : (number place : ℕ) → Report
+
+-- The report on what is read
+abbrev pub told : Outcome ℕ (List Placed) → Report
+told (ok es end) = counted (pairs (paths es))
+told (refuse n p) = refused n p
+
+-- The report on a section: its refusals of 1 to 12 are the report's
+unfoldable pub report : List ℕ → Report
+report s = told (readSection s)
+
+-- The number, or number and place, of each case
+abbrev pub reportOf : PathReport → Report
+reportOf (Counted n) = counted n
+reportOf (Refused number place) = refused number place

@@ -1,0 +1,106 @@
+-- What only the private functions of the crate promise one another. No public contract cites anything here.
+use Prim.Native.Nat.{ℕ, zero, suc, _+_, _≤_, _<_}
+use mathlib.Core.Bool.{cond}
+use mathlib.Core.List.{List, [], _∷_}
+use mathlib.Core.Path.{_≡_}
+use lib.Dec.{eqb}
+use lib.ListN.{length, getD, take, drop}
+use Rattle.layout.specs.Alone.{limit}
+use Rattle.leaf.specs.State.{lengthAt}
+use Rattle.section.specs.Derivation.{Derivation, placed}
+use Rattle.section.specs.Demand3.{DerivedBy}
+use Rattle.paths.specs.Paths.{paths, equals, pairs}
+
+-- The text whose length stands at a place
+unfoldable pub textFrom : List ℕ → ℕ → List ℕ
+textFrom s at = take (lengthAt s at) (drop (at + 4) s)
+
+-- The field of a text or a number
+pub data Field : Type 0 where
+  T : Field
+  N : Field
+
+-- Behind a field that begins at a place
+abbrev pub behindField : List ℕ → Field → ℕ → ℕ
+behindField s T at = at + 4 + lengthAt s at
+behindField s N at = at + 4
+
+-- Behind fields of which the first begins at a place
+abbrev pub behindFields : List ℕ → List Field → ℕ → ℕ
+behindFields s [] at = at
+behindFields s (f ∷ fs) at = behindFields s fs (behindField s f at)
+
+-- A kind with a full_path, and the fields before it
+abbrev pub fieldsBefore : List (ℕ × List Field)
+fieldsBefore =
+    (2, T ∷ T ∷ [])
+    ∷ (3, T ∷ T ∷ T ∷ [])
+    ∷ (4, T ∷ T ∷ N ∷ T ∷ [])
+    ∷ (5, T ∷ T ∷ N ∷ T ∷ [])
+    ∷ (6, T ∷ T ∷ N ∷ [])
+    ∷ (7, T ∷ T ∷ N ∷ [])
+    ∷ (8, [])
+    ∷ (9, T ∷ T ∷ N ∷ T ∷ [])
+    ∷ []
+
+-- Behind the fields before the full_path, or 0
+abbrev pub placeBy : List (ℕ × List Field) → List ℕ → (kind at : ℕ) → ℕ
+placeBy [] s kind at = 0
+placeBy (row ∷ rows) s kind at = cond (eqb kind (row .0)) (behindFields s (row .1) at) (placeBy rows s kind at)
+
+-- The place of the full_path of the payload that begins at a place, 0 if it has none
+unfoldable pub pathPlace : List ℕ → ℕ → ℕ
+pathPlace s at = placeBy fieldsBefore s (getD s at 0) (at + 1)
+
+-- The text at a place, unless that is 0
+abbrev pub textUnless0 : List ℕ → ℕ → List (List ℕ)
+textUnless0 s zero = []
+textUnless0 s (suc p) = textFrom s (suc p) ∷ []
+
+-- The full_path of the payload that begins at a place, if it has one
+unfoldable pub pathAt : List ℕ → ℕ → List (List ℕ)
+pathAt s at = textUnless0 s (pathPlace s at)
+
+-- There are not too many bytes, and those from a boundary on are derived
+pub record Rest (s : List ℕ) (at : ℕ) : Type 0 where
+  pub small : length s ≤ limit
+  pub inside : at ≤ length s
+  pub derivation : Derivation
+  pub by : DerivedBy (drop at s) derivation
+
+-- The full_path texts of the entities from there on
+abbrev pub pathsOf : {s : List ℕ} {at : ℕ} → Rest s at → List (List ℕ)
+pathsOf {s} {at} w = paths (placed at (w .derivation .items))
+
+-- A place from which a few lengths can be added
+abbrev pub far : ℕ
+far = 1099511627776
+
+-- What a text can take, with its length
+abbrev pub longest : ℕ
+longest = 4294967300
+
+-- The text whose length stands at a place is inside s
+pub record TextIn (s : List ℕ) (at : ℕ) : Type 0 where
+  pub begins : at + 4 ≤ length s
+  pub ends : at + 4 + lengthAt s at ≤ length s
+
+-- A payload that begins at a place is inside s, with its full_path if it has one
+pub record PayloadIn (s : List ℕ) (at : ℕ) : Type 0 where
+  pub small : length s ≤ limit
+  pub begins : at < length s
+  pub path : (pathPlace s at ≡ 0 → ⊥) → TextIn s (pathPlace s at)
+
+-- The pairs of one of some texts with one of some others
+abbrev pub pairsWith : List (List ℕ) → List (List ℕ) → ℕ
+pairsWith [] us = 0
+pairsWith (t ∷ ts) us = equals t us + pairsWith ts us
+
+-- n is the number of pairs from a boundary on
+abbrev pub Counts : List ℕ → (at n : ℕ) → Type 0
+Counts s at n = (w : Rest s at) → n ≡ pairs (pathsOf w)
+
+-- n is the number of pairs of a payload with the entries from a boundary on
+pub record CountsWith (s : List ℕ) (payload next n : ℕ) : Type 0 where
+  pub small : n ≤ limit
+  pub counts : (w : Rest s next) → n ≡ pairsWith (pathAt s payload) (pathsOf w)

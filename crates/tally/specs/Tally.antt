@@ -1,0 +1,24 @@
+-- The tally of whole-section readings: document 01, "Added to the crate".
+use Prim.Native.Nat.{ℕ, _+_}
+use mathlib.Core.Bool.{cond}
+use lib.Dec.{ltb}
+use Rattle.layout.specs.Answers.{Answer}
+use Rattle.tally.specs.declared.Tally.{Tally}
+use Rattle.layout.specs.Answers as answers
+
+-- Where a count stops
+abbrev pub most : ℕ
+most = 4294967295
+
+-- A count with one more, unless it has stopped
+abbrev pub oneMore : ℕ → ℕ
+oneMore n = cond (ltb n most) (n + 1) most
+
+-- A tally of no readings
+abbrev pub none : Tally
+none = record { accepted = 0; refused = 0 }
+
+-- A tally with one more answer, which counts as accepted or as refused
+abbrev pub tallied : Tally → Answer → Tally
+tallied t (answers.accepted entities rows) = record { accepted = oneMore (t .accepted); refused = t .refused }
+tallied t (answers.refused number place) = record { accepted = t .accepted; refused = oneMore (t .refused) }

@@ -6,3 +6,4 @@ pub mod Demand3
 pub mod Entries
 pub mod Bytes
 pub mod Decode
+pub mod Texts

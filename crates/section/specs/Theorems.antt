@@ -1,13 +1,17 @@
 -- What is proved of the definitions, as statements. Each comment names the proof, in proofs/.
 use Prim.Native.Nat.{ℕ, _+_, _*_, _≤_}
-use mathlib.Core.List.{List, _∷_, _++_, map}
+use mathlib.Core.List.{List, [], _∷_, _++_, map}
 use mathlib.Core.Logic.{_↔_}
 use mathlib.Core.Path.{_≡_}
 use lib.ListN.{length, replicate}
+use Rattle.layout.specs.Layout.{Leaf, string}
+use Rattle.layout.specs.Written.{bytesOf, rowAt}
 use Rattle.layout.specs.Reading.{ok, refuse}
 use Rattle.layout.specs.Answers.{Result}
 use Rattle.layout.specs.Alone.{limit}
 use Rattle.layout.specs.Theorems.{Bytes}
+use Rattle.parts.specs.declared.Row.{Row}
+use Rattle.parts.specs.Parts.{rowText, partOf}
 use Rattle.section.specs.Derivation.{Item, sentinel, Placed, Derivation, derive, placed, leafCount, entitiesOf, sentinels, entitySizes}
 use Rattle.section.specs.Section.{readSection, reading}
 use Rattle.section.specs.Refusals.{Refusal}
@@ -60,3 +64,12 @@ abbrev pub Sentinel-free : Type 0
 Sentinel-free =
     (at : ℕ) (before after : List Item)
     → map (λ (e : Placed). e .leaves) (placed at (before ++ (sentinel ∷ after))) ≡ map (λ (e : Placed). e .leaves) (placed at (before ++ after))
+
+-- The row of each text of a section that is derived gives that text: `text-found` in Texts.antt.
+-- `ls` are the leaves before the text in its entity, so that its row is the one that `rowsFrom` has for it
+abbrev pub Text-found : Type 0
+Text-found =
+    (s : List ℕ) (d : Derivation) → Good s d → (before after : List Placed) (e : Placed) → entitiesOf d ≡ before ++ (e ∷ after)
+    → (ls ms : List Leaf) (t : List ℕ) → e .leaves ≡ ls ++ (string t ∷ ms)
+    → (row : Row) → row .sort ∷ row .offset ∷ row .value ∷ [] ≡ rowAt (e .at + length (bytesOf ls)) (string t)
+    → partOf s (rowText s row) ≡ t

@@ -1,0 +1,288 @@
+#!/usr/bin/env python3
+"""Writes the cases of the crate cases: its stdin, and its stdout with the counts and the tally.
+
+The argument is a file of cases with their answers, of which the lines of reading (S, P, M, G) and of parts (T, N, Q) are
+taken, each once. The cases below are added, with answers by the rules of document 01. Each reading that is accepted is
+followed by the same with a table of just as many rows, and with one of a row less, which 13 refuses. For each section there
+is a case of the path report (R), whose pairs are counted here on the rows of the section's answer. In stdin a case has its own
+length before it, a part stands as its bytes, and = for the bytes of the case before. Prints how many cases of each letter
+there are. Run it in the repository's root after a change.
+"""
+import sys
+from collections import Counter
+
+READINGS = ("S", "P", "M", "G")  # a section; one payload, one metadata record, one mapping, each alone
+LETTERS = READINGS + ("T", "N", "Q", "R")  # a row's text, the SQL name from a row, the SQL text of a mapping, the path report
+LENGTH_DIGITS = 5
+MANY = 5461  # rows
+ROW_WIDTH = 3
+SORTS = {"kind": 1, "tag": 2, "flag": 3, "number": 4, "count": 5, "text": 6}
+FULL_PATH = {2: 3, 3: 4, 4: 5, 5: 5, 6: 4, 7: 4, 8: 1, 9: 5}  # of each kind, the row behind the kind's; a schema has none
+SENTINEL = "000400000070677278"
+
+# Custom SQL with empty texts and no requirement, and the count 1 of its declarations; the next byte is at 35
+CUSTOM_SQL = "02" + "00" * 30 + "01000000"
+CUSTOM_SQL_ROWS = "1 0 2 6 5 0 6 9 0 6 13 0 6 17 0 4 17 0 6 25 0 3 25 0 3 26 0 5 27 0 5 31 1"
+# A declaration of kind 1 with an empty name and an empty type_ident; its result is at 44
+DECLARED = CUSTOM_SQL + "01" + "00" * 8
+DECLARED_ROWS = CUSTOM_SQL_ROWS + " 2 35 1 6 40 0 6 44 0"
+
+ADDED = [
+    # Document 01's cases of a section
+    ("S", "1100000001" + "00" * 16, "accept 1 5 1 4 1 6 9 0 6 13 0 6 17 0 4 17 0"),
+    ("S", "-", "accept 0 0"),
+    ("S", "000000", "accept 0 0"),
+    ("S", "00000000", "accept 0 0"),
+    ("S", "09000000" + SENTINEL, "accept 0 0"),
+    ("S", "0001", "refuse 2 0"),
+    ("S", "0000000005", "refuse 3 0"),
+    ("S", "0200000001", "refuse 4 0"),
+    ("S", "010000000a", "refuse 8 4"),
+    ("S", "010000000a01", "refuse 2 5"),
+    ("S", "1200000001" + "00" * 17, "refuse 12 21"),
+    # One payload, record or mapping alone
+    ("P", "01" + "00" * 16, "accept 1 5 1 0 1 6 5 0 6 9 0 6 13 0 4 13 0"),
+    ("P", "01" + "00" * 17, "refuse 12 17"),
+    ("P", "0a", "refuse 8 0"),
+    ("P", SENTINEL, "refuse 8 0"),
+    ("P", "-", "refuse 5 0"),
+    ("P", DECLARED + "0201", "refuse 11 44"),
+    ("P", DECLARED + "020701000000ff", "refuse 7 50"),
+    ("P", DECLARED + "020705000000", "refuse 5 50"),
+    ("P", DECLARED + "0208", "refuse 9 45"),
+    ("P", DECLARED + "03", "refuse 9 44"),
+    ("P", DECLARED + "0102", "refuse 5 46"),
+    ("P", DECLARED + "010204", "refuse 10 44"),
+    ("P", DECLARED + "010205", "refuse 9 46"),
+    ("P", DECLARED + "0104", "refuse 10 44"),
+    ("P", DECLARED + "0105", "refuse 10 44"),
+    ("P", DECLARED + "010500", "refuse 10 44"),
+    ("P", DECLARED + "0106", "refuse 9 45"),
+    ("P", DECLARED + "010302", "refuse 6 46"),
+    ("P", DECLARED + "01010100000061", f"accept 1 17 {DECLARED_ROWS} 2 44 1 2 45 1 6 50 1"),
+    ("P", DECLARED + "0103000700000000ffffffff", f"accept 1 20 {DECLARED_ROWS} 2 44 1 2 45 3 3 46 0 4 47 7 3 51 0 4 52 4294967295"),
+    ("P", CUSTOM_SQL + "0901000000", "refuse 5 40"),
+    ("P", CUSTOM_SQL + "0900000000", "refuse 9 35"),
+    ("P", CUSTOM_SQL + "0301000000ff", "refuse 7 40"),
+    ("P", CUSTOM_SQL + "030100000061", f"accept 1 13 {CUSTOM_SQL_ROWS} 2 35 3 6 40 1"),
+    ("M", "000105010105", "accept 0 6 3 0 0 2 1 1 2 2 5 2 3 1 2 4 1 2 5 5"),
+    ("M", "0001050103ffffffff" + "05" * 11, "refuse 5 20"),
+    ("M", "0001050103ffffffff" + "05" * 10 + "06", "refuse 9 19"),
+]
+
+# Rows: letter, bytes, sort, offset, value, answer
+ADDED_ROWS = [
+    ("N", b"a:::b", 6, 0, 5, "part 3 2"),
+    ("N", b"a::", 6, 0, 3, "part 3 0"),
+    ("N", b"abc", 6, 0, 3, "part 0 3"),
+    ("N", b"::::", 6, 0, 4, "part 4 0"),
+    ("N", b":::", 6, 0, 3, "part 2 1"),
+    ("N", b"a::b", 6, 0, 2, "part 0 2"),
+    ("N", b"a::b", 4, 0, 4, "refuse 15 0"),
+    ("T", b"abc", 6, 1, 2, "part 1 2"),
+    ("T", b"abc", 6, 1, 3, "refuse 15 0"),
+    ("T", b"abc", 6, 3, 0, "part 3 0"),
+    ("T", b"abc", 6, 4, 0, "refuse 15 0"),
+    ("T", b"", 6, 0, 0, "part 0 0"),
+    ("T", b"\xc3\xa9", 6, 1, 1, "refuse 15 0"),
+]
+
+# Numeric mappings: the bytes behind the tag, and the SQL text
+ADDED_NUMERIC = [
+    ("010a0000000102000000", b"NUMERIC(10, 2)"),
+    ("00000000000105000000", b"NUMERIC"),
+    ("00090000000105000000", b"NUMERIC"),
+    ("010a0000000002000000", b"NUMERIC(10)"),
+    ("01ffffffff01ffffffff", b"NUMERIC(4294967295, 4294967295)"),
+]
+
+
+def flags(*values):
+    return [("flag", value) for value in values]
+
+
+def tags(*values):
+    return [("tag", value) for value in values]
+
+
+def entity(kind, path, module=b"m", used=b"u"):
+    """The leaves of an entity of that kind, with that full_path; an aggregate's state has a type with the full_path used."""
+    path, module, used = ("text", path), ("text", module), ("text", used)
+    name, file, line, ident = ("text", b"n"), ("text", b"f.rs"), ("number", 7), ("text", b"i")
+    none = ("count", 0)
+    to_sql = flags(1, 0)
+    skip = [*flags(0), *tags(1, 5, 1, 1, 5)]
+    fields = {
+        1: [module, name, file, line],
+        2: [ident, module, path, file, line, name, *flags(0, 1), none, none],
+        3: [name, name, module, path, none, *tags(1), *flags(0), file, line, none, *flags(0, 0, 0), *to_sql],
+        4: [name, file, line, module, path, ident, name, name, *flags(0, 0), *to_sql, *flags(0)],
+        5: [name, file, line, module, path, ident, ("count", 2), name, path, *to_sql],
+        6: [name, file, line, path, module, ident, *to_sql],
+        7: [name, file, line, path, module, ident, *to_sql],
+        8: [path, module, file, line, name, *flags(0), none, *flags(0, 0), ident, used, *flags(0, 0, 0, 0), *skip, name]
+        + [*flags(*[0] * 15), *to_sql],
+        9: [name, file, line, module, path, *to_sql],
+    }
+    return [("kind", kind), *fields[kind]]
+
+
+# Sections for the path report. None is a sentinel
+ADDED_SECTIONS = [
+    [entity(2, b"a::p"), entity(3, b"a::p"), entity(4, b"a::p")],
+    [entity(6, b"p"), entity(7, b"q")],
+    [entity(6, b"p", b"m"), entity(7, b"p", b"k")],
+    [entity(7, b"p"), entity(7, b"p"), entity(6, b"q"), entity(6, b"q")],
+    [entity(kind, b"p", b"p") for kind in range(1, 10)],
+    [entity(kind, b"p%d" % kind, b"p") for kind in range(1, 10)],
+    [entity(1, b"", b"p"), entity(1, b"", b"p")],
+    [None, entity(6, b"p"), None, None, entity(1, b"", b"p"), entity(9, b"p"), None, entity(5, b"p"), None],
+    [entity(4, b"p", b"q"), entity(6, b"q", b"p")],
+    [entity(8, b"p", b"m", b"q"), entity(3, b"q"), entity(9, b"m")],
+    [entity(8, b"p", b"m", b"q"), entity(8, b"r", b"m", b"q")],
+    [entity(2, b""), entity(9, b"")],
+    [entity(5, b"ab"), entity(5, b"a"), entity(5, b"abc"), entity(5, b"ac"), entity(5, b"bb")],
+    [entity(3, b"p"), entity(4, b"q"), entity(5, b"p"), entity(9, b"q")],
+    [entity(2 + number % 8, b"p", b"%d" % number) for number in range(20)],
+]
+
+
+def hexadecimal(octets):
+    return octets.hex() or "-"
+
+
+def octets_of(field):
+    return bytes.fromhex(field.replace("-", ""))
+
+
+def four(number):
+    return number.to_bytes(4, "little")
+
+
+def section(items, padding):
+    """The bytes of a section, and the answer to its reading."""
+    octets, rows = b"", []
+    for item in items:
+        if item is None:
+            octets += four(9) + bytes.fromhex(SENTINEL)
+            continue
+        start, payload = len(octets) + 4, b""
+        for sort, value in item:
+            at = start + len(payload)
+            if sort == "text":
+                payload += four(len(value)) + value
+                at, value = at + 4, len(value)
+            else:
+                payload += four(value) if sort in ("number", "count") else bytes([value])
+            rows += [SORTS[sort], at, value]
+        octets += four(len(payload)) + payload
+    entities = len(items) - items.count(None)
+    answer = ["accept", entities, len(rows) // ROW_WIDTH, *rows]
+    return octets + bytes(padding), " ".join(map(str, answer))
+
+
+def answered():
+    """The cases as lines of the file, and those added."""
+    with open(sys.argv[1]) as file:
+        yield from (line.rstrip("\n") for line in file if line.split(" ")[0] in LETTERS)
+    for letter, field, answer in ADDED:
+        yield f"{letter} {MANY} {field} {answer}"
+    for padding, items in enumerate(ADDED_SECTIONS):
+        octets, answer = section(items, padding)
+        yield f"S {MANY} {hexadecimal(octets)} {answer}"
+    for letter, octets, sort, offset, value, answer in ADDED_ROWS:
+        yield f"{letter} {hexadecimal(octets)} {sort} {offset} {value} {answer}"
+    for numbers, text in ADDED_NUMERIC:
+        yield f"Q ff03{numbers}ff 1 31 buffer 0 {len(text)} {text.hex()}{'ee' * (31 - len(text))}"
+
+
+def reading(line):
+    """A case of reading, and the same with other tables."""
+    letter, rows, field, verdict, *numbers = line.split(" ")
+    if verdict == "refuse":
+        yield f"{letter} {rows} {field} {' '.join(numbers)}"
+        return
+    needed = int(numbers[1])
+    assert needed <= int(rows) <= MANY and len(numbers) == 2 + ROW_WIDTH * needed, line
+    for size in (rows, needed):
+        yield f"{letter} {size} {field} 0 0 {' '.join(numbers)}"
+    if needed > 0:
+        yield f"{letter} {needed - 1} {field} 13 0"
+
+
+def row_part(line):
+    letter, field, sort, offset, value, verdict, *numbers = line.split(" ")
+    first, second = map(int, numbers)
+    answer = f"{first} {second} -"
+    if verdict == "part":
+        answer = f"0 0 {part(field, first, second)}"
+    return f"{letter} {sort},{offset},{value} {field} {answer}"
+
+
+def sql_text(line):
+    letter, field, offset, size, verdict, first, second, *rest = line.split(" ")
+    answer = f"{first} {second} - {'ee' * int(size) or '-'} {first} {second}"
+    if verdict != "refuse":
+        answer = f"0 0 {part(field if verdict == 'section' else rest[0], int(first), int(second))} {rest[0]} 0 0"
+    return f"{letter} {offset},{size} {field} {answer}"
+
+
+def part(field, start, length):
+    octets = octets_of(field)
+    assert start + length <= len(octets)
+    return hexadecimal(octets[start : start + length])
+
+
+def path_report(line):
+    """The case of the path report for a section, unless only the table was refused."""
+    letter, rows, field, verdict, *numbers = line.split(" ")
+    if verdict == "accept":
+        yield f"R 0 {field} 0 0 {pairs(octets_of(field), list(map(int, numbers[2:])))}"
+    elif numbers[0] != "13":
+        yield f"R 0 {field} {' '.join(numbers)}"
+
+
+def pairs(octets, numbers):
+    rows = [numbers[at : at + ROW_WIDTH] for at in range(0, len(numbers), ROW_WIDTH)]
+    paths = Counter()
+    for at, (sort, _, kind) in enumerate(rows):
+        if sort == SORTS["kind"] and kind in FULL_PATH:
+            sort, offset, length = rows[at + FULL_PATH[kind]]
+            assert sort == SORTS["text"]
+            paths[octets[offset : offset + length]] += 1
+    return sum(count * (count - 1) // 2 for count in paths.values())
+
+
+def cases():
+    for line in answered():
+        letter = line[0]
+        if letter in READINGS:
+            yield from reading(line)
+        if letter == "S":
+            yield from path_report(line)
+        if letter in ("T", "N"):
+            yield row_part(line)
+        if letter == "Q":
+            yield sql_text(line)
+
+
+def shortened(lines):
+    """The lines, with = for bytes that are those of the line before."""
+    before = None
+    for line in lines:
+        letter, numbers, field, answer = line.split(" ", 3)
+        yield " ".join([letter, numbers, "=" if field == before else field, answer])
+        before = field
+
+
+lines = list(dict.fromkeys(cases()))
+assert all(len(line) < 10**LENGTH_DIGITS for line in lines)
+tally = Counter(line.split(" ")[3] == "0" for line in lines if line[0] == "S")
+
+stdin = [f"{len(line):0{LENGTH_DIGITS}} {line}" for line in shortened(lines)]
+stdout = [f"cases {len(lines)}", "differ 0", f"tally {tally[True]} {tally[False]}"]
+for name, written in (("stdin", stdin), ("stdout", stdout)):
+    with open(f"crates/cases/{name}", "w") as file:
+        file.write("\n".join(written) + "\n")
+letters = Counter(line[0] for line in lines)
+print(" ".join(f"{letter} {letters[letter]}" for letter in LETTERS))

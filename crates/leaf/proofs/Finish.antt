@@ -10,7 +10,7 @@ use borrow.Author.Tests.{eq-eqb, ne-eqb, le-leb, lt-leb, le-ltb, leb-true, leb-f
 use Rattle.layout.specs.Layout.{Sort, Leaf, plain, string, Verdict, fine, wrong, Layout, nothing, one, text, _then_, case, check}
 use Rattle.layout.specs.Written.{rowWidth}
 use Rattle.layout.specs.Reading.{Outcome, ok, refuse, _>>=_, need, plainAt, textAt, read}
-use Rattle.layout.specs.Answers.{Result, wholeRows, acceptance, refusal, tell}
+use Rattle.layout.specs.Answers.{Result, Given, wholeRows, acceptance, refusal, tell}
 use Rattle.layout.specs.Alone.{limit, given, readAlone, readingAlone, ExactAlone}
 use Rattle.layout.specs.Theorems.{Bytes}
 use Rattle.layout.proofs.Alone.{alone-exact}
@@ -58,7 +58,7 @@ run-length (case srt A j B) s st =
 run-length (check A j) s st = pass-length (verdictOn j (read A s (st .cursor .at))) (st .cursor .at) (run A s st) ∙ run-length A s st
 
 -- Refusals of tables of one length are the same
-pub refusal-same : (n p : ℕ) (t u : List ℕ) → length t ≡ length u → refusal n p t ≡ refusal n p u
+refusal-same : (n p : ℕ) (t u : List ℕ) → length t ≡ length u → refusal n p t ≡ refusal n p u
 refusal-same n p t u e = rw e
 
 module _ (entities : ℕ) (s : List ℕ) (st : State) where
@@ -77,14 +77,28 @@ module _ (entities : ℕ) (s : List ℕ) (st : State) where
       finished-trailing h = rw (le-leb (length s) limit small, eq-eqb _ _ z, lt-leb (length s) (st .cursor .at) h)
 
       module _ (h : length s ≤ st .cursor .at) where
-        pub finished-short : st .cursor .short ≡ true → finished entities s st ≡ refusal 13 0 (st .table)
+        finished-short : st .cursor .short ≡ true → finished entities s st ≡ refusal 13 0 (st .table)
         unfolding finished
         finished-short e = rw (le-leb (length s) limit small, eq-eqb _ _ z, le-leb (length s) (st .cursor .at) h, e)
 
-        pub finished-whole : st .cursor .short ≡ false → st .cursor .rows ≤ wholeRows (st .table)
+        finished-whole : st .cursor .short ≡ false → st .cursor .rows ≤ wholeRows (st .table)
             → finished entities s st ≡ acceptance (record { entities = entities; leaves = st .cursor .rows; rows = take (rowWidth * st .cursor .rows) (st .table) }) (st .table)
         unfolding finished
         finished-whole e k = rw (le-leb (length s) limit small, eq-eqb _ _ z, le-leb (length s) (st .cursor .at) h, e, le-ltb (wholeRows (st .table)) (st .cursor .rows) k)
+
+-- A state at the end that has stored what is given, or is short of rows for it, is told through the table that it began with
+pub finished-told : (g : Given) (end : ℕ) (s table : List ℕ) (st : State) → length s ≤ limit → st .cursor .refusal ≡ 0 → length s ≤ st .cursor .at → length (st .table) ≡ length table
+    → (g .leaves ≤ wholeRows table → (st .cursor .rows ≡ g .leaves) × (st .cursor .short ≡ false) × (take (rowWidth * st .cursor .rows) (st .table) ≡ g .rows))
+    → (wholeRows table < g .leaves → st .cursor .short ≡ true)
+    → finished (g .entities) s st ≡ tell (ok g end) table
+finished-told g end s table st small z h l fit over = go (leb (g .leaves) (wholeRows table)) refl
+  where
+    go : (b : Bool) → leb (g .leaves) (wholeRows table) ≡ b → finished (g .entities) s st ≡ cond b (acceptance g table) (refusal 13 0 table)
+    go true e =
+        let k : g .leaves ≤ wholeRows table = leb-true _ _ e in
+        let (r, q, f) = fit k in
+        finished-whole (g .entities) s st small z h q (omega (arith, r, ap (λ (n : ℕ). n / rowWidth) l)) ∙ rw (f, r, l)
+    go false e = finished-short (g .entities) s st small z h (over (leb-false _ _ e)) ∙ refusal-same 13 0 (st .table) table l
 
 module _ (entities : ℕ) (s table : List ℕ) (small : length s ≤ limit) where
   -- The rest of the reading alone, behind `read`
@@ -92,25 +106,16 @@ module _ (entities : ℕ) (s table : List ℕ) (small : length s ≤ limit) wher
   ended o = tell (o >>= λ ls end. need (leb (length s) end) 12 end (ok (given entities ls) end)) table
 
   -- Everything was read
-  whole : (ls : List Leaf) (next : ℕ) (b : Bool) → leb (length ls) (wholeRows table) ≡ b → arriveAll ls (state start table) .cursor .at ≡ next → length s ≤ next
-      → finished entities s (arriveAll ls (state start table)) ≡ cond b (acceptance (given entities ls) table) (refusal 13 0 table)
-  whole ls next true e q h =
+  whole : (ls : List Leaf) (next : ℕ) → arriveAll ls (state start table) .cursor .at ≡ next → length s ≤ next
+      → finished entities s (arriveAll ls (state start table)) ≡ tell (ok (given entities ls) next) table
+  whole ls next q h =
       let st = state start table in
-      let k : length ls ≤ wholeRows table = leb-true (length ls) (wholeRows table) e in
-      let f = fills ls st (omega arith) in
-      let l : length (arriveAll ls st .table) ≡ length table = arriveAll-length ls st in
-      let r : arriveAll ls st .cursor .rows ≡ length ls = f .rows ∙ omega arith in
-      finished-whole entities s (arriveAll ls st) small (arriveAll-refusal ls st) (omega arith) (f .short) (omega (arith, ap (λ (n : ℕ). n / rowWidth) l))
-      ∙ rw (f .front, r, l)
-  whole ls next false e q h =
-      let st = state start table in
-      let k : wholeRows table < length ls = leb-false (length ls) (wholeRows table) e in
-      let g = shorts ls st (omega arith) (omega arith) in
-      finished-short entities s (arriveAll ls st) small (arriveAll-refusal ls st) (omega arith) g ∙ refusal-same 13 0 (arriveAll ls st .table) table (arriveAll-length ls st)
+      finished-told (given entities ls) next s table (arriveAll ls st) small (arriveAll-refusal ls st) (omega arith) (arriveAll-length ls st)
+      (λ k. let f = fills ls st (omega arith) in (f .rows ∙ omega arith, f .short, f .front)) (λ k. shorts ls st (omega arith) (omega arith))
 
   through : (ls : List Leaf) (next : ℕ) (b : Bool) → leb (length s) next ≡ b → arriveAll ls (state start table) .cursor .at ≡ next
       → finished entities s (arriveAll ls (state start table)) ≡ tell (need b 12 next (ok (given entities ls) next)) table
-  through ls next true e q = whole ls next (leb (length ls) (wholeRows table)) refl q (leb-true _ _ e)
+  through ls next true e q = whole ls next q (leb-true _ _ e)
   through ls next false e q =
       let st = state start table in
       let k : next < length s = leb-false (length s) next e in

@@ -1,3 +1,2 @@
 pub mod Listing
-pub mod Theorems
 pub mod Private

@@ -9,7 +9,6 @@ use lib.Seq.{paste, paste-suc, take-all, take-append-seam, drop-append-add}
 use Rattle.decimal.specs.Decimal.{decimal}
 use Rattle.parts.specs.declared.NumericSql.{NumericSql}
 use Rattle.parts.specs.Numeric.{numericSize, numericSql}
-use Rattle.parts.specs.Theorems.{Numeric-both, Numeric-scale}
 use Rattle.parts.specs.Private.{pasted}
 
 -- One byte more is stored
@@ -70,10 +69,3 @@ module _ (text : List ℕ) (x : NumericSql) (e : x ≡ numericSql text) where
   pub text-fits : x .len ≤ length (x .bytes)
   unfolding numericSql
   text-fits = rw e (simp length-append (omega arith))
-
-pub numeric-both : Numeric-both
-unfolding decimal
-numeric-both = refl
-
-pub numeric-scale : Numeric-scale
-numeric-scale = refl

@@ -1,7 +1,6 @@
 -- What is proved of the definitions, as statements. Each comment names the proof, in proofs/.
 use Prim.Native.Nat.{ℕ, _≤_}
 use mathlib.Core.List.{List, [], _∷_}
-use mathlib.Core.Option.{none, some}
 use mathlib.Core.Path.{_≡_}
 use lib.ListN.{length, drop}
 use Rattle.decimal.specs.Ascii.{ascii}
@@ -13,7 +12,7 @@ use Rattle.layout.specs.Alone.{limit}
 use Rattle.layout.specs.Theorems.{Bytes}
 use Rattle.parts.specs.declared.Row.{Row}
 use Rattle.parts.specs.Parts.{rowText, partOf, sqlName}
-use Rattle.parts.specs.Numeric.{numericText, numericSize}
+use Rattle.parts.specs.Numeric.{numericSize}
 use Rattle.parts.specs.SqlText.{numeric, sqlText, sqlPartOf, filled}
 
 -- The text of a row lies in the bytes: `row-lies` in RowText.antt
@@ -34,14 +33,6 @@ Name-end = (name : List ℕ) → (start : ℕ) × (start ≤ length name) × (sq
 abbrev pub Name-cases : Type 0
 Name-cases =
     (sqlName (ascii "a:::b") ≡ ascii ":b") × (sqlName (ascii "a::") ≡ []) × (sqlName (ascii "ab") ≡ ascii "ab")
-
--- Precision 10 and scale 2: `numeric-both` in Numeric.antt
-abbrev pub Numeric-both : Type 0
-Numeric-both = numericText (some 10) (some 2) ≡ ascii "NUMERIC(10, 2)"
-
--- No precision, and scale 5: `numeric-scale` in Numeric.antt
-abbrev pub Numeric-scale : Type 0
-Numeric-scale = numericText none (some 5) ≡ ascii "NUMERIC"
 
 -- The SQL text of As is the text that it stores: `as-part` in SqlText.antt
 abbrev pub As-part : Type 0

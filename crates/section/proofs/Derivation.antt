@@ -1,5 +1,6 @@
 -- What a derivation derives: its length, and that it determines the derivation.
 use Prim.Native.Nat.{ℕ, zero, suc, _+_, _*_, _/_, _%_, _≤_, _<_}
+use native.Mathlib.Nat.{add-zero, zero-add}
 use native.Mathlib.Omega.{arith}
 use mathlib.Core.List.{List, [], _∷_, _++_, map, append-assoc, head-eq-of-cons-eq, tail-eq-of-cons-eq}
 use mathlib.Core.Path.{_≡_, refl, sym, ap, _∙_}
@@ -11,7 +12,7 @@ use Rattle.layout.proofs.Numbers.{number-four}
 use Rattle.layout.proofs.Rows.{leaves-bytes}
 use Rattle.layout.proofs.InBytes.{value-unique}
 use Rattle.section.specs.Derivation.{Item, sentinel, entity, sentinelBytes, payload, entry, entries, ProperItem, ProperItems, Placed, placed, leafCount, entitiesOf, sentinels, leafSize, leafSizes, entitySizes}
-use Rattle.section.specs.Theorems.{Derivation-unique, Byte-sum, Rows-bound, Sentinel-free}
+use Rattle.section.specs.Theorems.{Derivation-unique, Byte-sum, Rows-bound, movedBy, Sentinel-free}
 
 -- Sizes
 leafSize-bytes : (x : Leaf) → length (leafBytes x) ≡ leafSize x
@@ -116,12 +117,32 @@ derivation-unique s d e p q =
     λ k. record { items = h .0 k; padding = h .1 k }
 
 -- Sentinels
-leaves-anywhere : (at to : ℕ) (is : List Item) → map (λ (e : Placed). e .leaves) (placed at is) ≡ map (λ (e : Placed). e .leaves) (placed to is)
-leaves-anywhere at to [] = refl
-leaves-anywhere at to (sentinel ∷ is) = leaves-anywhere (at + 4 + length sentinelBytes) (to + 4 + length sentinelBytes) is
-leaves-anywhere at to (entity v ∷ is) = ap (λ (l : List (List Leaf)). leaves Entity v ∷ l) (leaves-anywhere (at + 4 + length (bytes Entity v)) (to + 4 + length (bytes Entity v)) is)
+placed-append : (at : ℕ) (is js : List Item) → placed at (is ++ js) ≡ placed at is ++ placed (at + length (entries is)) js
+placed-append at [] js = rw add-zero
+placed-append at (sentinel ∷ is) js =
+    let e : at + 4 + length sentinelBytes + length (entries is) ≡ at + length (entries (sentinel ∷ is)) = omega arith in
+    rw (← e) (placed-append (at + 4 + length sentinelBytes) is js)
+placed-append at (entity v ∷ is) js =
+    let e : at + 4 + length (bytes Entity v) + length (entries is) ≡ at + length (entries (entity v ∷ is)) = omega (arith, length-append (bytes Entity v) (entries is)) in
+    rw (← e) (ap (λ (l : List Placed). record { at = at + 4; leaves = leaves Entity v } ∷ l) (placed-append (at + 4 + length (bytes Entity v)) is js))
+
+placed-moved : (n at : ℕ) (is : List Item) → placed (n + at) is ≡ map (movedBy n) (placed at is)
+placed-moved n at [] = refl
+placed-moved n at (sentinel ∷ is) =
+    let e : n + at + 4 + length sentinelBytes ≡ n + (at + 4 + length sentinelBytes) = omega arith in
+    ap (λ (x : ℕ). placed x is) e ∙ placed-moved n (at + 4 + length sentinelBytes) is
+placed-moved n at (entity v ∷ is) =
+    let e : n + at + 4 + length (bytes Entity v) ≡ n + (at + 4 + length (bytes Entity v)) = omega arith in
+    let f : n + at + 4 ≡ n + (at + 4) = omega arith in
+    ap (λ (x : ℕ). record { at = x; leaves = leaves Entity v } ∷ placed (n + at + 4 + length (bytes Entity v)) is) f
+    ∙ ap (λ (l : List Placed). record { at = n + (at + 4); leaves = leaves Entity v } ∷ l) (ap (λ (x : ℕ). placed x is) e ∙ placed-moved n (at + 4 + length (bytes Entity v)) is)
+
+from-start : (is js : List Item) → placed 0 (is ++ js) ≡ placed 0 is ++ placed (length (entries is)) js
+from-start is js = placed-append 0 is js ∙ ap (λ (x : ℕ). placed 0 is ++ placed x js) (zero-add (length (entries is)))
 
 pub sentinel-free : Sentinel-free
-sentinel-free at [] after = leaves-anywhere (at + 4 + length sentinelBytes) at after
-sentinel-free at (sentinel ∷ is) after = sentinel-free (at + 4 + length sentinelBytes) is after
-sentinel-free at (entity v ∷ is) after = ap (λ (l : List (List Leaf)). leaves Entity v ∷ l) (sentinel-free (at + 4 + length (bytes Entity v)) is after)
+sentinel-free before after =
+    let e : length (entries before) + 4 + length sentinelBytes ≡ 13 + length (entries before) = omega arith in (
+      from-start before (sentinel ∷ after) ∙ ap (λ (l : List Placed). placed 0 before ++ l) (ap (λ (x : ℕ). placed x after) e ∙ placed-moved 13 (length (entries before)) after),
+      from-start before after,
+    )

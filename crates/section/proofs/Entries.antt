@@ -12,7 +12,7 @@ use Rattle.layout.specs.Layout.{Leaf}
 use Rattle.layout.specs.Written.{bytes, rowWidth}
 use Rattle.layout.specs.Entities.{Entity}
 use Rattle.layout.specs.Reading.{Outcome, ok, refuse, _>>=_, numberAt, read}
-use Rattle.layout.specs.Answers.{wholeRows, acceptance, refusal, tell}
+use Rattle.layout.specs.Answers.{wholeRows, refusal, tell}
 use Rattle.layout.specs.Alone.{limit}
 use Rattle.layout.specs.Theorems.{Bytes}
 use Rattle.layout.proofs.Walk.{all-ok}
@@ -25,12 +25,12 @@ use Rattle.leaf.specs.Theorems.{arriveAll, Follows}
 use Rattle.leaf.proofs.Leaves.{length-there}
 use Rattle.leaf.proofs.Table.{arriveAll-length, fills, shorts, stays-short}
 use Rattle.leaf.proofs.Reading.{arriveAll-refusal, moved-of, stops-of, run-read}
-use Rattle.leaf.proofs.Finish.{finished-refused, finished-short, finished-whole, refusal-same}
+use Rattle.leaf.proofs.Finish.{finished-refused, finished-told}
 use Rattle.section.specs.Derivation.{sentinelBytes, Placed, leafCount, rowsOf, givenOf}
 use Rattle.section.specs.Framing.{allZero, Part, Parts, framing}
 use Rattle.section.specs.Answers.{framingEnd}
 use Rattle.section.specs.Section.{same, ended, readEntity, readPayload, readPayloads, readSection}
-use Rattle.section.specs.Private.{Stage, stage, seeks, closed, entered, entry, arriveEntities, Reads, reads, stops}
+use Rattle.section.specs.Private.{Stage, stage, seeks, closed, entered, pastEntry, arriveEntities, Reads, reads, stops}
 use Rattle.section.specs.Refusals.{framed, Framable}
 use Rattle.section.proofs.Framing.{partAt, partsOf, partsBefore, framingFrom, framing-start, framed-as, from-pad, from-few, from-zero, from-long, from-entry, four-not-zero, entry-at}
 use Rattle.section.proofs.Section.{bytes-take}
@@ -115,7 +115,7 @@ clear-start s end q = go (framing s) refl q
 pub end-inside : (s : List ℕ) → Bytes s → (at end : ℕ) → at ≤ length s → Clear s at end → (at ≤ end) × (end ≤ length s)
 end-inside s u at end h c =
     let f = all-ok (framed-as s u at h) (c .frames) in
-    (omega (arith, f .ends), go (f .payloads) (f .there) (f .ends))
+    (omega (arith, f .span .ends), go (f .payloads) (f .span .there) (f .span .ends))
   where
     go : (xs : List (List ℕ)) → drop at s ≡ framed xs ++ drop end s → end ≡ at + length (framed xs) → end ≤ length s
     go xs e n = omega (arith, ap length e, length-append (framed xs) (drop end s), length-drop at s)
@@ -139,7 +139,7 @@ unfolding readFrom readPayloads
 reads-entry s at z end p q c = rw (q, c .frames)
 
 clear-entry : (s : List ℕ) → Bytes s → (at end : ℕ) → at ≤ length s → Clear s at end → at < end → Next s at end (lengthAt s at)
-clear-entry s u at end h c l = let f = all-ok (framed-as s u at h) (c .frames) in go (f .payloads) (f .framable) (f .there) (f .ends)
+clear-entry s u at end h c l = let f = all-ok (framed-as s u at h) (c .frames) in go (f .payloads) (f .span .framable) (f .span .there) (f .span .ends)
   where
     go : (xs : List (List ℕ)) → Framable xs → drop at s ≡ framed xs ++ drop end s → end ≡ at + length (framed xs) → Next s at end (lengthAt s at)
     go [] f e n = absurd (omega arith)
@@ -151,7 +151,7 @@ clear-entry s u at end h c l = let f = all-ok (framed-as s u at h) (c .frames) i
 
 clear-end : (s : List ℕ) → Bytes s → (end : ℕ) → end ≤ length s → Clear s end end → readFrom s end ≡ ok [] end
 unfolding readFrom readPayloads
-clear-end s u end h c = let f = all-ok (framed-as s u end h) (c .frames) in go (f .payloads) (f .framable) (f .parts) (f .ends)
+clear-end s u end h c = let f = all-ok (framed-as s u end h) (c .frames) in go (f .payloads) (f .span .framable) (f .parts) (f .span .ends)
   where
     go : (xs : List (List ℕ)) → Framable xs → c .parts ≡ partsOf end xs → end ≡ end + length (framed xs) → readFrom s end ≡ ok [] end
     go [] f p n = rw (c .frames, p)
@@ -318,8 +318,8 @@ module _ (s table : List ℕ) (u : Bytes s) (small : length s ≤ limit) (end : 
       pub few-entities : g .entities ≤ limit
       few-entities = rw (ap (λ (x : Stage). x .entities) (h .stands)) (omega (arith, h .few, h .inside, ends, small))
 
-      pub leads : (r : Stage) → r ≡ entry s g → Leads s table end at r
-      unfolding entry
+      pub leads : (r : Stage) → r ≡ pastEntry s g → Leads s table end at r
+      unfolding pastEntry
       leads r e = rw (e, h .stands) (leads-entered at (h .found) (h .rest) (lengthAt s at) come-next ends (h .few))
 
     -- At the padding
@@ -365,24 +365,12 @@ entities-short (e ∷ es) st h k = go (leb (st .cursor .rows + length (e .leaves
 
 -- The answer at the end of the second walk
 module _ (s table : List ℕ) (small : length s ≤ limit) (end : ℕ) (ends : length s ≤ end) where
-  whole : (es : List Placed) (b : Bool) → leb (leafCount es) (wholeRows table) ≡ b
-      → finished (length es) s (seeks end (arriveEntities es (state start table))) ≡ cond b (acceptance (givenOf es) table) (refusal 13 0 table)
-  whole es true e =
-      let st = state start table in
-      let k : leafCount es ≤ wholeRows table = leb-true _ _ e in
-      let f = entities-fill es st (omega arith) in
-      let l : length (arriveEntities es st .table) ≡ length table = arriveEntities-length es st in
-      let r : arriveEntities es st .cursor .rows ≡ leafCount es = f .rows ∙ omega arith in
-      finished-whole (length es) s (seeks end (arriveEntities es st)) small (arriveEntities-refusal es st) ends (f .short) (omega (arith, ap (λ (n : ℕ). n / rowWidth) l))
-      ∙ rw (f .front, r, l)
-  whole es false e =
-      let st = state start table in
-      let k : wholeRows table < leafCount es = leb-false _ _ e in
-      let g = entities-short es st (omega arith) (omega arith) in
-      finished-short (length es) s (seeks end (arriveEntities es st)) small (arriveEntities-refusal es st) ends g ∙ refusal-same 13 0 (arriveEntities es st .table) table (arriveEntities-length es st)
-
   pub answers : (g : Stage) (o : Outcome ℕ (List Placed)) → Reads table end g o → finished (g .entities) s (g .state) ≡ tell (o >>= λ es e. ok (givenOf es) e) table
-  answers g o (reads {es = es} e) = ap (λ (x : Stage). finished (x .entities) s (x .state)) e ∙ whole es (leb (leafCount es) (wholeRows table)) refl
+  answers g o (reads {es = es} {at = at} e) =
+      let st = state start table in
+      ap (λ (x : Stage). finished (x .entities) s (x .state)) e
+      ∙ finished-told (givenOf es) at s table (seeks end (arriveEntities es st)) small (arriveEntities-refusal es st) ends (arriveEntities-length es st)
+      (λ k. let f = entities-fill es st (omega arith) in (f .rows ∙ omega arith, f .short, f .front)) (λ k. entities-short es st (omega arith) (omega arith))
   answers g o (stops h) = finished-refused (g .entities) s (g .state) small (λ w. h .1 (sym (h .0) ∙ w)) ∙ rw (h .0, h .2, h .3)
 
 -- One entry, from what the code's calls answer: n is its length, x what the part of its payload takes
@@ -390,13 +378,13 @@ part-of : (s : List ℕ) (a n x : ℕ) → a + n ≤ length s → x ≡ n → dr
 part-of s a n x h q = rw (take-add a n s, drop-at (take a s) (take n (drop a s)) a (length-take-le a s (omega arith)), q)
 
 module _ (s : List ℕ) (g : Stage) (n x : ℕ) (q : n ≡ lengthAt s (g .state .cursor .at)) (l : x ≡ n) (h : g .state .cursor .at + 4 + n ≤ length s) (b : Bool) (e : b ≡ same (take x (drop (g .state .cursor .at + 4) s)) sentinelBytes) where
-  pub entry-sentinel : b ≡ true → (c : Cursor) → c ≡ seek (g .state .cursor .at + 4 + n) (g .state .cursor) → stage (state c (g .state .table)) (g .entities) ≡ entry s g
-  unfolding entry
+  pub entry-sentinel : b ≡ true → (c : Cursor) → c ≡ seek (g .state .cursor .at + 4 + n) (g .state .cursor) → stage (state c (g .state .table)) (g .entities) ≡ pastEntry s g
+  unfolding pastEntry
   entry-sentinel k c w = rw (← q, part-of s (g .state .cursor .at + 4) n x h l, ← e, k, w)
 
   pub entry-entity : b ≡ false → (c : Cursor) → c ≡ seek (g .state .cursor .at + 4) (g .state .cursor) → (r : State) → r ≡ run Entity (take (g .state .cursor .at + 4 + n) s) (state c (g .state .table))
-      → (d : Cursor) → d ≡ closed (g .state .cursor .at + 4 + n) (r .cursor) → stage (state d (r .table)) (g .entities + 1) ≡ entry s g
-  unfolding entry
+      → (d : Cursor) → d ≡ closed (g .state .cursor .at + 4 + n) (r .cursor) → stage (state d (r .table)) (g .entities + 1) ≡ pastEntry s g
+  unfolding pastEntry
   entry-entity k c w r v d y =
       let i : run Entity (take (g .state .cursor .at + 4 + n) s) (seeks (g .state .cursor .at + 4) (g .state)) ≡ r = sym (v ∙ rw w) in
       rw (← q, part-of s (g .state .cursor .at + 4) n x h l, ← e, k, i, y)

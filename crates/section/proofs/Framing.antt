@@ -55,13 +55,20 @@ module _ (s : List ℕ) (rest : ℕ → Parts) (at : ℕ) where
       unfolding boundary
       boundary-entry l = rw (z, le-leb (at + 4) (length s) h, e, le-leb 1 n k, le-leb (at + 4 + n) (length s) l)
 
--- The payloads stand at a place of s in entries, as the parts say, with padding from `end` on
-pub record FramedAs (s : List ℕ) (at : ℕ) (ps : List Part) (end : ℕ) : Type 0 where
-  pub payloads : List (List ℕ)
+-- The payloads stand in entries from a place of s up to another
+pub record Span (s : List ℕ) (at : ℕ) (payloads : List (List ℕ)) (end : ℕ) : Type 0 where
   pub framable : Framable payloads
   pub there : drop at s ≡ framed payloads ++ drop end s
-  pub parts : ps ≡ partsOf at payloads
   pub ends : end ≡ at + length (framed payloads)
+
+pub span-none : (s : List ℕ) (at : ℕ) → Span s at [] at
+span-none s at = record { framable = tt; there = refl; ends = omega arith }
+
+-- They do so as the parts say, with padding behind them
+pub record FramedAs (s : List ℕ) (at : ℕ) (ps : List Part) (end : ℕ) : Type 0 where
+  pub payloads : List (List ℕ)
+  pub span : Span s at payloads end
+  pub parts : ps ≡ partsOf at payloads
   pub padding : drop end s ≡ replicate (length s - end) 0
 
 allZero-sound : (t : List ℕ) → allZero t ≡ true → t ≡ replicate (length t) 0
@@ -81,27 +88,34 @@ all-cond true x y f g = f refl
 all-cond false x y f g = g refl
 
 padding-framed : (s : List ℕ) (at : ℕ) → allZero (drop at s) ≡ true → FramedAs s at [] at
-padding-framed s at e = record { payloads = []; framable = tt; there = refl; parts = refl; ends = omega arith; padding = rw length-drop at (allZero-sound (drop at s) e) }
+padding-framed s at e = record { payloads = []; span = span-none s at; parts = refl; padding = rw length-drop at (allZero-sound (drop at s) e) }
 
 -- The payload of an entry
-pub entry-cut : (s : List ℕ) (at n : ℕ) → at + 4 + n ≤ length s → drop at s ≡ four n ++ drop (at + 4) s → (x : List ℕ) × (length x ≡ n) × (drop at s ≡ four (length x) ++ (x ++ drop (at + 4 + n) s))
+entry-cut : (s : List ℕ) (at n : ℕ) → at + 4 + n ≤ length s → drop at s ≡ four n ++ drop (at + 4) s → (x : List ℕ) × (length x ≡ n) × (drop at s ≡ four (length x) ++ (x ++ drop (at + 4 + n) s))
 entry-cut s at n h e =
     let lx : length (take n (drop (at + 4) s)) ≡ n = length-take-le n (drop (at + 4) s) (omega (arith, length-drop (at + 4) s)) in
     let d : take n (drop (at + 4) s) ++ drop (at + 4 + n) s ≡ drop (at + 4) s = rw (← drop-drop n (at + 4) s) (take-append-drop n (drop (at + 4) s)) in
     (take n (drop (at + 4) s), lx, rw (d, lx) e)
 
+-- One entry more before them
+pub span-more : (s : List ℕ) (at n : ℕ) {xs : List (List ℕ)} {end : ℕ} → at + 4 + n ≤ length s → 1 ≤ n → n < 4294967296 → drop at s ≡ four n ++ drop (at + 4) s
+    → Span s (at + 4 + n) xs end → (x : List ℕ) × (length x ≡ n) × Span s at (x ∷ xs) end
+span-more s at n {xs} {end} h h₁ h₂ e r =
+    let (x, lx, d) = entry-cut s at n h e in (
+      x,
+      lx,
+      record {
+        framable = (rw lx h₁, rw lx h₂, r .framable);
+        there = rw (append-assoc (four (length x) ++ x), append-assoc, ← r .there) d;
+        ends = omega (arith, lx, r .ends, length-append x (framed xs));
+      },
+    )
+
 entry-framed : (s : List ℕ) (at n : ℕ) {ps : List Part} {end : ℕ} → at + 4 + n ≤ length s → 1 ≤ n → n < 4294967296 → drop at s ≡ four n ++ drop (at + 4) s
     → FramedAs s (at + 4 + n) ps end → FramedAs s at (partAt at n ∷ ps) end
-entry-framed s at n {ps} {end} h h₁ h₂ e r =
-    let (x, lx, d) = entry-cut s at n h e in
-    record {
-      payloads = x ∷ r .payloads;
-      framable = (rw lx h₁, rw lx h₂, r .framable);
-      there = rw (append-assoc (four (length x) ++ x), append-assoc, ← r .there) d;
-      parts = rw (lx, r .parts);
-      ends = omega (arith, lx, r .ends, length-append x (framed (r .payloads)));
-      padding = r .padding;
-    }
+entry-framed s at n h h₁ h₂ e r =
+    let (x, lx, more) = span-more s at n h h₁ h₂ e (r .span) in
+    record { payloads = x ∷ r .payloads; span = more; parts = rw (lx, r .parts); padding = r .padding }
 
 pub boundaries-sound : (s : List ℕ) → Bytes s → (k at : ℕ) → at ≤ length s → length s < at + k → All (FramedAs s at) (boundaries k s at)
 unfolding boundaries boundary

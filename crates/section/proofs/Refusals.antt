@@ -22,7 +22,7 @@ use Rattle.section.specs.Section.{same, ended, readEntity, readPayload, 
 use Rattle.section.specs.Refusals.{framed, Framable, Boundary, BadBoundary, few-remain, length-zero, length-long, BadPayload, bad-read, bytes-remain, Refusal, too-long, bad-boundary, bad-payload}
 use Rattle.section.specs.Theorems.{Refusal-exact}
 use Rattle.section.proofs.Derivation.{payload-some, payload-small}
-use Rattle.section.proofs.Framing.{partAt, partsOf, not-true, entry-cut, boundaries-sound, framingFrom, framing-start, framing-past, framing-complete, framing-sound, from-few, from-zero, from-long, four-not-zero}
+use Rattle.section.proofs.Framing.{partAt, partsOf, not-true, Span, span-none, span-more, boundaries-sound, framingFrom, framing-start, framing-past, framing-complete, framing-sound, from-few, from-zero, from-long, four-not-zero}
 use Rattle.section.proofs.Section.{IsItem, same-sound, part-there, payload-sound, payload-complete, payloads-sound, entries-framed}
 
 -- What holds of a refusal, if it is one
@@ -56,13 +56,11 @@ module _ {S A : Type 0} {Q : ℕ → ℕ → Type 0} where
 -- The first bad boundary from a place on, with the payloads up to it
 record BadFrom (s : List ℕ) (at n p : ℕ) : Type 0 where
   before : List (List ℕ)
-  framable : Framable before
-  there : drop at s ≡ framed before ++ drop p s
-  ends : p ≡ at + length (framed before)
+  span : Span s at before p
   is : BadBoundary s p n
 
 bad-here : (s : List ℕ) (at n : ℕ) → BadBoundary s at n → BadFrom s at n at
-bad-here s at n b = record { before = []; framable = tt; there = refl; ends = omega arith; is = b }
+bad-here s at n b = record { before = []; span = span-none s at; is = b }
 
 some-left : (s : List ℕ) (at : ℕ) → allZero (drop at s) ≡ false → at < length s
 some-left s at z = go (ltb at (length s)) refl
@@ -81,15 +79,9 @@ after-zero s u at h n =
     ap allZero d
 
 bad-after : (s : List ℕ) (at l : ℕ) {n p : ℕ} → at + 4 + l ≤ length s → 1 ≤ l → l < 4294967296 → drop at s ≡ four l ++ drop (at + 4) s → BadFrom s (at + 4 + l) n p → BadFrom s at n p
-bad-after s at l {n} {p} h h₁ h₂ e r =
-    let (x, lx, d) = entry-cut s at l h e in
-    record {
-      before = x ∷ r .before;
-      framable = (rw lx h₁, rw lx h₂, r .framable);
-      there = rw (append-assoc (four (length x) ++ x), append-assoc, ← r .there) d;
-      ends = omega (arith, lx, r .ends, length-append x (framed (r .before)));
-      is = r .is;
-    }
+bad-after s at l h h₁ h₂ e r =
+    let (x, lx, more) = span-more s at l h h₁ h₂ e (r .span) in
+    record { before = x ∷ r .before; span = more; is = r .is }
 
 boundaries-bad : (s : List ℕ) → Bytes s → (k at : ℕ) → at ≤ length s → length s < at + k → Fails (BadFrom s at) (boundaries k s at)
 unfolding boundaries boundary
@@ -186,10 +178,10 @@ section-bad s u =
     fails-need (leb (length s) limit) 1 0 _ (λ e. too-long (leb-false _ _ e)) λ h.
     fails-bind (framing s) _ (framing-sound s u)
     (fails-map (boundaries-bad s u (suc (length s)) 0 (omega arith) (omega arith)) λ n p r.
-    bad-boundary (leb-true _ _ h) (record { before = r .before; framable = r .framable; there = r .there; ends = omega (arith, r .ends) }) (r .is))
+    bad-boundary (leb-true _ _ h) (record { before = r .before; framable = r .span .framable; there = r .span .there; ends = omega (arith, r .span .ends) }) (r .is))
     λ ps end f.
     rw (f .parts)
-    (fails-map (payloads-bad s u end 0 (f .payloads) (drop end s) (f .framable) (f .there)) λ n p b.
+    (fails-map (payloads-bad s u end 0 (f .payloads) (drop end s) (f .span .framable) (f .span .there)) λ n p b.
     bad-payload (leb-true _ _ h)
     (record {
       before = b .before;
@@ -197,8 +189,8 @@ section-bad s u =
       after = b .after;
       padding = length s - end;
       proper = b .proper;
-      framable = framable-after (map payload (b .before)) (b .pay ∷ b .after) (rw (b .are) at (f .framable));
-      there = f .there ∙ rw (ap framed (b .are) ∙ framed-items (b .before) (b .pay ∷ b .after), f .padding, append-assoc (entries (b .before)));
+      framable = framable-after (map payload (b .before)) (b .pay ∷ b .after) (rw (b .are) at (f .span .framable));
+      there = f .span .there ∙ rw (ap framed (b .are) ∙ framed-items (b .before) (b .pay ∷ b .after), f .padding, append-assoc (entries (b .before)));
       other = b .other;
       is = rw zero-add at (b .is);
     }))

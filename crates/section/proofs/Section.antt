@@ -132,9 +132,9 @@ section-sound s u =
     all-need (leb (length s) limit) 1 0 _ λ h.
     all-bind (framing s) _ (framing-sound s u) λ ps end f.
     rw (f .parts)
-    (all-map (payloads-sound s u end 0 (f .payloads) (drop end s) (f .framable) (f .there)) λ es e q. (
+    (all-map (payloads-sound s u end 0 (f .payloads) (drop end s) (f .span .framable) (f .span .there)) λ es e q. (
       record { items = q .all; padding = length s - end },
-      record { small = leb-true (length s) limit h; by = record { proper = q .proper; derives = sym (f .there ∙ rw (f .padding, q .are, ← entries-framed (q .all))) } },
+      record { small = leb-true (length s) limit h; by = record { proper = q .proper; derives = sym (f .span .there ∙ rw (f .padding, q .are, ← entries-framed (q .all))) } },
       q .found,
     ))
 

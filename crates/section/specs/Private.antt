@@ -20,9 +20,11 @@ pub record Stage : Type 0 where
   pub state : State
   pub entities : ℕ
 
+-- The two together
 abbrev pub stage : State → (entities : ℕ) → Stage
 stage st n = record { state = st; entities = n }
 
+-- What the code has read so far, with its table
 abbrev pub staged : Progress → List ℕ → Stage
 staged p table = stage (state (p .cursor) table) (p .entities)
 
@@ -43,8 +45,8 @@ entered s begin end g =
     (stage (state (closed end (r .cursor)) (r .table)) (g .entities + 1))
 
 -- What the entry where a stage stands makes of it
-unfoldable pub entry : List ℕ → Stage → Stage
-entry s g =
+unfoldable pub pastEntry : List ℕ → Stage → Stage
+pastEntry s g =
     let at = g .state .cursor .at in
     entered s (at + 4) (at + 4 + lengthAt s at) g
 

@@ -12,7 +12,7 @@ use Rattle.layout.specs.Alone.{limit}
 use Rattle.layout.specs.Theorems.{Bytes}
 use Rattle.parts.specs.declared.Row.{Row}
 use Rattle.parts.specs.Parts.{rowText, partOf}
-use Rattle.section.specs.Derivation.{Item, sentinel, Placed, Derivation, derive, placed, leafCount, entitiesOf, sentinels, entitySizes}
+use Rattle.section.specs.Derivation.{Item, sentinel, Placed, Derivation, entries, derive, placed, leafCount, entitiesOf, sentinels, entitySizes}
 use Rattle.section.specs.Section.{readSection, reading}
 use Rattle.section.specs.Refusals.{Refusal}
 use Rattle.section.specs.Demand3.{DerivedBy, Good, Demand3}
@@ -59,11 +59,16 @@ Padding-free =
     (s : List ℕ) (d : Derivation) → Good s d → (k : ℕ) → length (s ++ replicate k 0) ≤ limit
     → (table : List ℕ) → reading (s ++ replicate k 0) table ≡ reading s table
 
--- A sentinel is no entity, and changes nothing of the entities behind it but their places: `sentinel-free` in Derivation.antt
+-- An entity that stands so many bytes further on
+abbrev pub movedBy : ℕ → Placed → Placed
+movedBy n e = record { at = n + e .at; leaves = e .leaves }
+
+-- A sentinel is no entity: those before it stay as they are, and those after it move on by its 13 bytes: `sentinel-free` in Derivation.antt
 abbrev pub Sentinel-free : Type 0
 Sentinel-free =
-    (at : ℕ) (before after : List Item)
-    → map (λ (e : Placed). e .leaves) (placed at (before ++ (sentinel ∷ after))) ≡ map (λ (e : Placed). e .leaves) (placed at (before ++ after))
+    (before after : List Item)
+    → (placed 0 (before ++ (sentinel ∷ after)) ≡ placed 0 before ++ map (movedBy 13) (placed (length (entries before)) after))
+    × (placed 0 (before ++ after) ≡ placed 0 before ++ placed (length (entries before)) after)
 
 -- The row of each text of a section that is derived gives that text: `text-found` in Texts.antt.
 -- `ls` are the leaves before the text in its entity, so that its row is the one that `rowsFrom` has for it

@@ -13,7 +13,7 @@ ghost use Rattle.section.specs.Framing.{allZero};
 ghost use Rattle.section.specs.Answers.{framingOf, framingEnd};
 ghost use Rattle.section.specs.Section.{same, readSection, reading};
 ghost use Rattle.section.specs.Demand3.{Demand3};
-ghost use Rattle.section.specs.Private.{staged, closed, entry, Reads};
+ghost use Rattle.section.specs.Private.{staged, closed, pastEntry, Reads};
 
 // The payload that yields nothing.
 pub const SECTION_SENTINEL_PAYLOAD: [u8; 9] = [0, 4, 0, 0, 0, 0x70, 0x67, 0x72, 0x78];
@@ -109,7 +109,7 @@ fn close(c: Cursor, end: usize) -> Cursor
 // One entry, where the cursor stands: the sentinel, which yields nothing, or an entity.
 fn read_entry(p: Progress, s: &[u8], t: &mut [u32]) -> Progress
     requires { ⌜ p .cursor .at + 4 + lengthAt (now s) (p .cursor .at) ≤ length (now s) ⌝ ∗ ⌜ length (now s) ≤ limit ⌝ ∗ ⌜ p .entities ≤ limit ⌝ }
-    ensures { λ r. ⌜ staged r (now (t .exit)) ≡ entry (now (s .entry)) (staged p (now (t .entry))) ⌝ }
+    ensures { λ r. ⌜ staged r (now (t .exit)) ≡ pastEntry (now (s .entry)) (staged p (now (t .entry))) ⌝ }
 {
     let c = p.cursor;
     let entities = p.entities;

@@ -1,18 +1,22 @@
 #!/usr/bin/env python3
 """Writes the cases of the crate cases: its stdin, and its stdout with the counts and the tally.
 
-The argument is a file of cases with their answers, of which the lines of reading (S, P, M, G) and of parts (T, N, Q) are
-taken, each once. The cases below are added, with answers by the rules of document 01. Each reading that is accepted is
-followed by the same with a table of just as many rows, and with one of a row less, which 13 refuses. For each section there
-is a case of the path report (R), whose pairs are counted here on the rows of the section's answer. In stdin a case has its own
-length before it, a part stands as its bytes, and = for the bytes of the case before. Prints how many cases of each letter
-there are. Run it in the repository's root after a change.
+The argument is a file of cases with their answers, of which the lines of reading (S, P, M, G), of parts (T, N, Q) and of
+writing (W, w) are taken, each once. The cases below are added, with answers by the rules of document 01. Each reading that is
+accepted is followed by the same with a table of just as many rows, and with one of a row less, which 13 refuses; each writing
+that is accepted, by the same with a destination of just the length, and with one of a byte less, which 17 refuses. For each
+section there is a case of the path report (R), whose pairs are counted here on the rows of the section's answer. In stdin a
+case has its own length before it, a part stands as its bytes, a table to be written stands behind the destination's size and
+the count of its numbers, the destination ends the answer after a refusal too, and = stands for the bytes of the case before.
+Prints how many cases of each letter there are. Run it in the repository's root after a change.
 """
 import sys
 from collections import Counter
 
 READINGS = ("S", "P", "M", "G")  # a section; one payload, one metadata record, one mapping, each alone
-LETTERS = READINGS + ("T", "N", "Q", "R")  # a row's text, the SQL name from a row, the SQL text of a mapping, the path report
+PARTS = ("T", "N", "Q")  # a row's text, the SQL name from a row, the SQL text of a mapping
+WRITINGS = ("W", "w")  # a metadata record, one mapping
+LETTERS = READINGS + PARTS + ("R",) + WRITINGS  # R is the path report
 LENGTH_DIGITS = 5
 MANY = 5461  # rows
 ROW_WIDTH = 3
@@ -94,6 +98,104 @@ ADDED_NUMERIC = [
     ("00090000000105000000", b"NUMERIC"),
     ("010a0000000002000000", b"NUMERIC(10)"),
     ("01ffffffff01ffffffff", b"NUMERIC(4294967295, 4294967295)"),
+]
+
+# The rows of document 01's record, the first rows of one that returns a table, and the rows of one with 1024 columns, up to the
+# last column's text. If that has 16370 bytes, the record has 16,777,216
+RECORD = "3,0,0 2,1,1 2,2,5 2,3,1 2,4,1 2,5,5"
+RETURNS_TABLE = "3,0,0 2,0,2 2,0,1 2,0,1 2,0,3"
+LONG = RETURNS_TABLE + " 5,0,1024" + " 2,0,1 6,0,16379" * 1023 + " 2,0,1"
+LONG_TEXT = b"a" * 16379
+
+# Writings: letter, table, lent text, and what is written; the destination has three bytes more
+ADDED_WRITES = [
+    ("W", RECORD, b"", "000105010105"),
+    # The offsets of other rows than texts
+    ("W", "3,9,0 2,9,1 2,9,5 2,4294967295,1 2,0,1 2,9,5", b"", "000105010105"),
+    # Other tags
+    ("W", "3,0,1 6,1,2 2,0,2 2,0,1 2,0,1 6,0,1 2,0,1 2,0,2 2,0,4", b"abc", "010200000062630201010100000061010204"),
+    ("W", "3,0,0 2,0,2 2,0,7 6,3,0 2,0,2 2,0,10", b"abc", "00020700000000020a"),
+    ("W", RETURNS_TABLE + " 5,0,0", b"", "000201010300000000"),
+    ("W", RETURNS_TABLE + " 5,0,2 2,0,4 2,0,5", b"", "0002010103020000000405"),
+    ("w", "2,0,5", b"", "05"),
+    ("w", "2,0,2 2,0,1 6,1,2", b"abc", "0201020000006263"),
+    # Texts at the end of the lent bytes, one between bytes that are no text, and one with the bytes of another
+    ("w", "2,0,1 6,3,0", b"abc", "0100000000"),
+    ("w", "2,0,1 6,0,3", b"abc", "0103000000616263"),
+    ("w", "2,0,1 6,0,0", b"", "0100000000"),
+    ("w", "2,0,1 6,1,2", b"\xffab\xff", "01020000006162"),
+    ("W", "3,0,1 6,0,2 2,0,1 2,0,1 2,0,1 6,1,2 2,0,2 2,0,1", b"abc", "010200000061620101010200000062630201"),
+    # Unused numbers
+    ("w", "2,0,3 3,0,0 4,0,7 3,0,0 4,0,4294967295", b"", "03000700000000ffffffff"),
+    ("w", "2,0,2 2,0,3 3,0,0 4,0,9 3,0,1 4,0,256", b"", "020300090000000100010000"),
+]
+
+# Writings that are refused: letter, table, lent text, the destination's size, and the number
+ADDED_REFUSED_WRITES = [
+    # Tables that are empty, no whole rows, too short or too long
+    ("W", "", b"", 9, 14),
+    ("w", "", b"", 0, 14),
+    ("W", RECORD + " 0", b"", 9, 14),
+    ("W", RECORD + " 0,0", b"", 9, 14),
+    ("W", RECORD + " 0,0,0", b"", 9, 14),
+    ("W", RECORD + " 2,5,5", b"", 9, 14),
+    ("W", RECORD[:-6], b"", 9, 14),
+    ("W", RECORD[:-4], b"", 9, 14),
+    ("W", RECORD[:-2], b"", 9, 14),
+    ("w", "2,0,5 0,0,0", b"", 9, 14),
+    ("W", "2,0,5", b"", 9, 14),
+    ("w", RECORD, b"", 9, 14),
+    # Sorts and values that are right in their last bytes only
+    ("w", "258,0,5", b"", 9, 14),
+    ("w", "65538,0,5", b"", 9, 14),
+    ("w", "2,0,257 6,0,0", b"", 9, 14),
+    ("w", "2,0,261", b"", 9, 14),
+    ("w", "2,0,65541", b"", 9, 14),
+    ("w", "2,0,16777221", b"", 9, 14),
+    ("w", "2,0,1 262,0,0", b"", 9, 14),
+    ("w", "2,0,3 3,0,256 4,0,0 3,0,0 4,0,0", b"", 19, 14),
+    ("W", "3,0,256 2,1,1 2,2,5 2,3,1 2,4,1 2,5,5", b"", 9, 14),
+    # Other sorts than are due
+    ("w", "1,0,5", b"", 9, 14),
+    ("w", "257,0,5", b"", 9, 14),
+    ("w", "6,0,5", b"abcde", 9, 14),
+    ("w", "2,0,1 4,0,0", b"", 9, 14),
+    ("w", "2,0,3 3,0,0 5,0,0 3,0,0 4,0,0", b"", 19, 14),
+    ("W", RETURNS_TABLE + " 4,0,0", b"", 19, 14),
+    # Unknown tags and flags
+    ("w", "2,0,0", b"", 9, 14),
+    ("w", "2,0,6", b"", 9, 14),
+    ("w", "2,0,2 2,0,2 2,0,4", b"", 9, 14),
+    ("w", "2,0,2 2,0,5", b"", 9, 14),
+    ("w", "2,0,3 3,0,0 4,0,0 3,0,2 4,0,0", b"", 19, 14),
+    ("W", "3,0,1 6,0,0 2,0,3 2,0,2 2,0,1 2,0,2 2,0,1", b"", 19, 14),
+    ("W", "3,0,0 2,0,2 2,0,8 2,0,2 2,0,1", b"", 9, 14),
+    ("W", "3,0,0 2,0,2 2,0,1 2,0,2 2,0,11", b"", 9, 14),
+    ("W", "3,0,0 2,0,2 2,0,1 2,0,3 2,0,1", b"", 9, 14),
+    ("W", "3,0,0 2,0,2 2,0,1 2,0,1 2,0,4", b"", 9, 14),
+    # Counts of other lists
+    ("W", RETURNS_TABLE + " 5,0,1 2,0,4 2,0,5", b"", 19, 14),
+    ("W", RETURNS_TABLE + " 5,0,3 2,0,4 2,0,5", b"", 19, 14),
+    ("W", RETURNS_TABLE + " 5,0,4294967295 2,0,5", b"", 19, 14),
+    # Texts that leave the lent bytes, and parts of a character
+    ("w", "2,0,1 6,4,0", b"abc", 9, 15),
+    ("w", "2,0,1 6,1,3", b"abc", 9, 15),
+    ("w", "2,0,1 6,1,4294967295", b"abc", 9, 15),
+    ("w", "2,0,1 6,4294967295,1", b"abc", 9, 15),
+    ("w", "2,0,1 6,4294967295,4294967295", b"abc", 9, 15),
+    ("w", "2,0,1 6,0,1", b"\xc3\xa9", 9, 15),
+    ("w", "2,0,1 6,1,1", b"\xc3\xa9", 9, 15),
+    ("W", "3,0,1 6,0,0 2,0,1 2,0,1 2,0,1 6,0,4 2,0,2 2,0,1", b"abc", 99, 15),
+    ("W", "3,0,1 6,0,4 2,0,1 2,0,1 2,0,1 6,0,0 2,0,2 2,0,1", b"abc", 99, 15),
+    # Where more than one number is met
+    ("W", "3,0,1 6,0,4 2,0,1 2,0,1 2,0,1 6,0,0 2,0,2 2,0,11", b"abc", 99, 14),
+    ("W", "3,0,1 6,0,4 2,0,1 2,0,1 2,0,1 6,0,0 2,0,2 2,0,1 0", b"abc", 99, 14),
+    ("w", "2,0,1 6,4,0 0,0,0", b"abc", 0, 14),
+    ("w", "2,0,1 6,4,0", b"abc", 0, 15),
+    # Lengths above the limit, and the limit itself
+    ("W", LONG + " 6,0,16371", LONG_TEXT, 9, 16),
+    ("W", LONG + " 6,0,16370", LONG_TEXT, 9, 17),
+    ("W", LONG + " 6,0,16380", LONG_TEXT, 9, 15),
 ]
 
 
@@ -194,6 +296,11 @@ def answered():
         yield f"{letter} {hexadecimal(octets)} {sort} {offset} {value} {answer}"
     for numbers, text in ADDED_NUMERIC:
         yield f"Q ff03{numbers}ff 1 31 buffer 0 {len(text)} {text.hex()}{'ee' * (31 - len(text))}"
+    for letter, table, text, written in ADDED_WRITES:
+        length = len(octets_of(written))
+        yield f"{letter} {table.replace(' ', ',')} {hexadecimal(text)} {length + 3} wrote {length} {written}{untouched(3)}"
+    for letter, table, text, size, number in ADDED_REFUSED_WRITES:
+        yield f"{letter} {table.replace(' ', ',') or '-'} {hexadecimal(text)} {size} refuse {number} 0"
 
 
 def reading(line):
@@ -221,7 +328,7 @@ def row_part(line):
 
 def sql_text(line):
     letter, field, offset, size, verdict, first, second, *rest = line.split(" ")
-    answer = f"{first} {second} - {'ee' * int(size) or '-'} {first} {second}"
+    answer = f"{first} {second} - {untouched(int(size))} {first} {second}"
     if verdict != "refuse":
         answer = f"0 0 {part(field if verdict == 'section' else rest[0], int(first), int(second))} {rest[0]} 0 0"
     return f"{letter} {offset},{size} {field} {answer}"
@@ -231,6 +338,30 @@ def part(field, start, length):
     octets = octets_of(field)
     assert start + length <= len(octets)
     return hexadecimal(octets[start : start + length])
+
+
+def untouched(size):
+    """A buffer of that size as it was lent."""
+    return "ee" * size or "-"
+
+
+def writing(line):
+    """A case of writing, and the same with other destinations."""
+    letter, table, field, size, verdict, first, second = line.split(" ")
+    numbers = [] if table == "-" else table.split(",")
+
+    def case(room, answer):
+        return f"{letter} {','.join([str(room), str(len(numbers)), *numbers])} {field} {answer}"
+
+    if verdict == "refuse":
+        yield case(size, f"{first} {second} {untouched(int(size))}")
+        return
+    length = int(first)
+    written = second[: 2 * length]
+    assert second == written + "ee" * (int(size) - length), line
+    yield case(size, f"0 0 {length} {second}")
+    yield case(length, f"0 0 {length} {written}")
+    yield case(length - 1, f"17 0 {untouched(length - 1)}")
 
 
 def path_report(line):
@@ -264,6 +395,8 @@ def cases():
             yield row_part(line)
         if letter == "Q":
             yield sql_text(line)
+        if letter in WRITINGS:
+            yield from writing(line)
 
 
 def shortened(lines):

@@ -9,11 +9,15 @@
 // - Q is the SQL text of a mapping. The numbers are its offset and the buffer's size. The answer is number, place and the part,
 //   then the buffer, and number and place of the call that filled it.
 // - R is the path report. Its number is 0. The answer is 0, 0 and how many pairs there are; or a refusal's number and place.
+// - W is the writing of a metadata record, and w that of one mapping. The numbers are the destination's size, how many numbers
+//   the table has, and these; the bytes are the lent text. The answer is 0, 0 and the length, or a refusal's number and place;
+//   then the whole destination.
 //
 // A case that differs is printed, and below it what was answered. At the end stand how many cases were run and how many differ,
 // and the tally of the sections accepted and refused.
 use leaf::Answer;
 use leaf::ROW_WIDTH;
+use length::Length;
 use libc::STDIN_FILENO;
 use libc::STDOUT_FILENO;
 use parts::Row;
@@ -31,11 +35,14 @@ const MOST_ROWS: usize = 5461;
 
 const MOST_NUMBERS: usize = MOST_ROWS * ROW_WIDTH + ROW_WIDTH - 1;
 
+// The most numbers of a case: two, and those of a table.
+const CASE_NUMBERS: usize = MOST_NUMBERS + 2;
+
 // What each number that is lent is before the call.
 const FILL: u32 = 4294967295;
 
-// The most bytes of a buffer for SQL text, and what each is before the call.
-const MOST_BUFFER: usize = 32;
+// The most bytes of a buffer that is lent to be filled, and what each is before the call.
+const MOST_BUFFER: usize = 512;
 
 const FILL_BYTE: u8 = 0xee;
 
@@ -55,7 +62,7 @@ const BAD: usize = 1000001;
 
 fn main() {
     let mut line = io::large_buffer();
-    let mut space = io::buffer();
+    let mut space = io::large_buffer();
     let counts = run_all(&mut line, &mut space);
     counts.print();
 }
@@ -182,7 +189,7 @@ fn read_line(line: &mut [u8], size: usize) -> usize {
 
 // Runs a case, the one with that number, and counts it.
 fn run(case: &[u8], number: usize, space: &mut [u8], counts: Counts) -> Counts {
-    let mut numbers = [0u32; 3];
+    let mut numbers = [0u32; CASE_NUMBERS];
     let n = parse(behind(case), &mut numbers, space, counts.bytes);
     run_parsed(case, number, &numbers, space, n, counts)
 }
@@ -191,7 +198,7 @@ fn run(case: &[u8], number: usize, space: &mut [u8], counts: Counts) -> Counts {
 fn run_parsed(
     case: &[u8],
     number: usize,
-    numbers: &[u32; 3],
+    numbers: &[u32; CASE_NUMBERS],
     space: &[u8],
     n: usize,
     counts: Counts,
@@ -269,7 +276,7 @@ fn behind<'a>(s: &'a [u8]) -> &'a [u8] {
 }
 
 // Parses the numbers and the bytes of a case, and answers how many bytes there are.
-fn parse(s: &[u8], numbers: &mut [u32; 3], space: &mut [u8], before: usize) -> usize {
+fn parse(s: &[u8], numbers: &mut [u32; CASE_NUMBERS], space: &mut [u8], before: usize) -> usize {
     if parse_numbers(field(s), numbers) {
         return parse_bytes(field(behind(s)), space, before);
     }
@@ -380,7 +387,7 @@ struct Ran {
 // out ends, and is longer than any case then.
 fn answer(
     letter: u8,
-    numbers: &[u32; 3],
+    numbers: &[u32; CASE_NUMBERS],
     number: usize,
     s: &[u8],
     out: &mut [u8; OUT_SIZE],
@@ -404,12 +411,18 @@ fn is_reading(letter: u8) -> bool {
     letter == b'S' || letter == b'P' || letter == b'M' || letter == b'G'
 }
 
-fn answer_other(letter: u8, numbers: &[u32; 3], s: &[u8], out: &mut [u8; OUT_SIZE]) -> usize {
+fn answer_other(
+    letter: u8,
+    numbers: &[u32; CASE_NUMBERS],
+    s: &[u8],
+    out: &mut [u8; OUT_SIZE],
+) -> usize {
     match letter {
         b'T' => row_text(numbers, s, out),
         b'N' => sql_name(numbers, s, out),
         b'Q' => sql_text(numbers, s, out),
         b'R' => path_report(s, out),
+        b'W' | b'w' => write(letter, numbers, s, out),
         _ => bad_case(out),
     }
 }
@@ -480,9 +493,14 @@ fn spell_answer(answer: Answer, out: &mut [u8; OUT_SIZE]) -> usize {
 }
 
 fn spell_counts(entities: usize, rows: usize, out: &mut [u8; OUT_SIZE]) -> usize {
-    let end = put_refusal(out, 0, 0, 0);
-    let end = put_number(out, end, entities as u64);
+    let end = spell_accepted(entities as u64, out);
     put_number(out, end, rows as u64)
+}
+
+// Puts the two 0 of what is not refused, and the number behind them.
+fn spell_accepted(n: u64, out: &mut [u8; OUT_SIZE]) -> usize {
+    let end = put_refusal(out, 0, 0, 0);
+    put_number(out, end, n)
 }
 
 // How many numbers of the table the rows of an answer take: all of them where the table has fewer rows.
@@ -518,31 +536,26 @@ fn is_clear(t: &[u32]) -> bool {
 fn path_report(s: &[u8], out: &mut [u8; OUT_SIZE]) -> usize {
     let report = paths::path_report(s);
     match report {
-        PathReport::Counted { pairs } => spell_pairs(pairs, out),
+        PathReport::Counted { pairs } => spell_accepted(pairs, out),
         PathReport::Refused { number, place } => put_refusal(out, 0, number, place),
     }
 }
 
-fn spell_pairs(pairs: u64, out: &mut [u8; OUT_SIZE]) -> usize {
-    let end = put_refusal(out, 0, 0, 0);
-    put_number(out, end, pairs)
-}
-
-fn row_text(numbers: &[u32; 3], s: &[u8], out: &mut [u8; OUT_SIZE]) -> usize {
+fn row_text(numbers: &[u32; CASE_NUMBERS], s: &[u8], out: &mut [u8; OUT_SIZE]) -> usize {
     let mut number = FILL;
     let mut place = FILL;
     let part = parts::row_text(s, row(numbers), &mut number, &mut place);
     spell_part(number, place, part, out)
 }
 
-fn sql_name(numbers: &[u32; 3], s: &[u8], out: &mut [u8; OUT_SIZE]) -> usize {
+fn sql_name(numbers: &[u32; CASE_NUMBERS], s: &[u8], out: &mut [u8; OUT_SIZE]) -> usize {
     let mut number = FILL;
     let mut place = FILL;
     let part = parts::sql_name(s, row(numbers), &mut number, &mut place);
     spell_part(number, place, part, out)
 }
 
-fn row(numbers: &[u32; 3]) -> Row {
+fn row(numbers: &[u32; CASE_NUMBERS]) -> Row {
     Row {
         sort: numbers[0],
         offset: numbers[1],
@@ -555,7 +568,7 @@ fn spell_part(number: u32, place: u32, part: &[u8], out: &mut [u8; OUT_SIZE]) ->
     put_bytes(out, end, part)
 }
 
-fn sql_text(numbers: &[u32; 3], s: &[u8], out: &mut [u8; OUT_SIZE]) -> usize {
+fn sql_text(numbers: &[u32; CASE_NUMBERS], s: &[u8], out: &mut [u8; OUT_SIZE]) -> usize {
     let size = wide_number(numbers[1]) as usize;
     if MOST_BUFFER < size {
         return bad_case(out);
@@ -578,6 +591,49 @@ fn sql_part<'a>(s: &'a [u8], offset: u32, buffer: &'a [u8], out: &mut [u8; OUT_S
     let part = parts::sql_text(s, offset, buffer, &mut number, &mut place);
     let end = spell_part(number, place, part, out);
     put_bytes(out, end, buffer)
+}
+
+// A writing with the bytes of a case as the lent text.
+fn write(
+    letter: u8,
+    numbers: &[u32; CASE_NUMBERS],
+    text: &[u8],
+    out: &mut [u8; OUT_SIZE],
+) -> usize {
+    let size = wide_number(numbers[0]) as usize;
+    let end = 2 + wide_number(numbers[1]) as usize;
+    let all: &[u32] = numbers;
+    if MOST_BUFFER < size || all.len() < end {
+        return bad_case(out);
+    }
+    let mut dest = [FILL_BYTE; MOST_BUFFER];
+    write_with(letter, &all[2..end], text, &mut dest[..size], out)
+}
+
+fn write_with(
+    letter: u8,
+    rows: &[u32],
+    text: &[u8],
+    dest: &mut [u8],
+    out: &mut [u8; OUT_SIZE],
+) -> usize {
+    let length = encode(letter, rows, text, dest);
+    let end = spell_length(length, out);
+    put_bytes(out, end, dest)
+}
+
+fn encode(letter: u8, rows: &[u32], text: &[u8], dest: &mut [u8]) -> Length {
+    if letter == b'W' {
+        return writer::encode_function_metadata_type(rows, text, dest);
+    }
+    writer::encode_sql_mapping(rows, text, dest)
+}
+
+fn spell_length(length: Length, out: &mut [u8; OUT_SIZE]) -> usize {
+    match length {
+        Length::Bytes { count } => spell_accepted(count as u64, out),
+        Length::Refused { number, place } => put_refusal(out, 0, number, place),
+    }
 }
 
 // Each of these puts something into out from the place at on, as far as there is room, and answers the place behind it. A blank

@@ -11,10 +11,12 @@ use Rattle.layout.specs.Layout.{Leaf, Tag, plain, Verdict, fine, wrong, unknown
 use Rattle.layout.specs.Forms.{Tags, known, follows, tags}
 use Rattle.layout.specs.Entities.{SqlMapping, sqlMappings, ArgumentSql, argumentResults, DeclaredSql, asOrNumeric, resultVerdict}
 use Rattle.layout.specs.Reading.{Outcome, ok, refuse, _>>=_, need, judged, enough, read}
+use Rattle.layout.specs.Machine.{verdictOn}
 use Rattle.layout.proofs.Equations.{after, read-nothing, read-case}
 use Rattle.leaf.specs.State.{State}
-use Rattle.leaf.specs.Run.{run, verdictOn}
-use Rattle.leaf.proofs.Forms.{Refused, pass-refused, check-law}
+use Rattle.leaf.specs.Run.{reader, run}
+use Rattle.layout.proofs.Forms.{check-law}
+use Rattle.leaf.proofs.Still.{Refused, pass-refused}
 use Rattle.leaf.proofs.Reading.{case-read}
 
 -- What a table of tags has read: a tag that is known, and what follows it
@@ -52,7 +54,7 @@ tagged rows s at ls next h = go (enough s at 1) refl (sym (read-case Tag nothing
 pub result-refused : (s : List ℕ) (st st₁ : State) → st₁ ≡ run ArgumentSql s st → Refused st₁ → st₁ ≡ run DeclaredSql s st
 unfolding DeclaredSql
 result-refused s st st₁ e h =
-    check-law ArgumentSql resultVerdict s st st₁ st₁ e (sym (pass-refused (verdictOn resultVerdict (read ArgumentSql s (st .cursor .at))) (st .cursor .at) st₁ h))
+    check-law ArgumentSql resultVerdict (reader s) st st₁ st₁ e (sym (pass-refused s (verdictOn resultVerdict (read ArgumentSql s (st .cursor .at))) st st₁ h))
 
 -- Of a result that was read: its first byte, and where that is Ok the next
 module _ (s : List ℕ) (st st₁ : State) (e : st₁ ≡ run ArgumentSql s st) (z : st₁ .cursor .refusal ≡ 0) where

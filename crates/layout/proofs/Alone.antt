@@ -69,9 +69,9 @@ drop-all (suc n) [] h = refl
 drop-all (suc n) (x ∷ l) h = drop-all n l (omega arith)
 
 module _ (L : Layout) (entities : ℕ) (s : List ℕ) where
-  complete : (v : Value L) → Derives L s v → readAlone L entities s ≡ ok (given entities (leaves L v)) (length s)
+  pub alone-complete : (v : Value L) → Derives L s v → readAlone L entities s ≡ ok (given entities (leaves L v)) (length s)
   unfolding readAlone
-  complete v g =
+  alone-complete v g =
       let e : read L s 0 ≡ ok (leaves L v) (0 + length (bytes L v)) = read-complete L v s 0 [] (g .proper) (sym (g .derives) ∙ sym (append-nil (bytes L v))) in
       let n : 0 + length (bytes L v) ≡ length s = omega (arith, ap length (g .derives)) in
       rw (le-leb (length s) limit (g .small), e, n, le-leb (length s) (length s) (omega arith))
@@ -87,7 +87,7 @@ module _ (L : Layout) (entities : ℕ) (s : List ℕ) where
       walk.given (v, record { small = leb-true (length s) limit h; proper = proper; derives = sym (there .0 ∙ rw d (append-nil (bytes L v))) }, rw same)
 
   finds : Bytes s → Finds (Derives L s) (λ v. given entities (leaves L v)) (readAlone L entities s)
-  finds u = record { complete = λ v g. (length s, complete v g); sound = sound u }
+  finds u = record { complete = λ v g. (length s, alone-complete v g); sound = sound u }
 
 pub alone-exact : Alone-exact
 unfolding readingAlone

@@ -1,4 +1,5 @@
 pub mod Walk
+pub mod Each
 pub mod Numbers
 pub mod InBytes
 pub mod InLeaves
@@ -6,3 +7,5 @@ pub mod Rows
 pub mod Alone
 pub mod Equations
 pub mod Tables
+pub mod Forms
+pub mod Follow

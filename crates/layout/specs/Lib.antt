@@ -3,6 +3,7 @@ pub mod Written
 pub mod Forms
 pub mod Entities
 pub mod Reading
+pub mod Machine
 pub mod Spelling
 pub mod Answers
 pub mod Alone

@@ -51,6 +51,10 @@ walk S (case srt A j B) st =
     (walk S (B n) st₂ >>= λ b st₃. ok (n, a, b) st₃)
 walk S (check A j) st = walk S A st >>= λ a st₁. judged (j (leaves A a)) (S .place st) (ok a st₁)
 
+-- The leaves of a layout that are read from any source
+abbrev pub leavesAt : (S : Source) (L : Layout) → S .State → Outcome (S .State) (List Leaf)
+leavesAt S L st = walk S L st >>= λ v end. ok (leaves L v) end
+
 -- A text is valid by RFC 3629
 unfoldable pub utf8 : List ℕ → Bool
 utf8 t = automaton.utf8 t

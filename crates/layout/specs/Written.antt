@@ -1,7 +1,7 @@
 -- What a value derives: the bytes of its leaves, and their rows. Nothing here is taken from the reader.
-use Prim.Native.Nat.{ℕ, _+_, _/_, _%_}
+use Prim.Native.Nat.{ℕ, _+_, _*_, _/_, _%_}
 use mathlib.Core.List.{List, [], _∷_, _++_}
-use lib.ListN.{length}
+use lib.ListN.{length, getD}
 use Rattle.layout.specs.Layout.{Sort, Kind, Tag, Flag, Number, Count, Leaf, plain, string, Layout, Value, leaves}
 
 -- Four bytes, little-endian
@@ -56,3 +56,15 @@ rowAt at (string t) = 6 ∷ (at + 4) ∷ length t ∷ []
 abbrev pub rowsFrom : ℕ → List Leaf → List ℕ
 rowsFrom at [] = []
 rowsFrom at (x ∷ ls) = rowAt at x ++ rowsFrom (at + length (leafBytes x)) ls
+
+-- The sort of a row of a table
+abbrev pub sortAt : List ℕ → (row : ℕ) → ℕ
+sortAt table row = getD table (rowWidth * row) 0
+
+-- Its offset
+abbrev pub offsetAt : List ℕ → (row : ℕ) → ℕ
+offsetAt table row = getD table (rowWidth * row + 1) 0
+
+-- Its value
+abbrev pub valueAt : List ℕ → (row : ℕ) → ℕ
+valueAt table row = getD table (rowWidth * row + 2) 0

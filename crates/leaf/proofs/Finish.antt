@@ -7,19 +7,20 @@ use mathlib.Core.Path.{_≡_, refl, sym, ap, _∙_}
 use lib.Dec.{leb, eqb}
 use lib.ListN.{length, take}
 use borrow.Author.Tests.{eq-eqb, ne-eqb, le-leb, lt-leb, le-ltb, leb-true, leb-false}
-use Rattle.layout.specs.Layout.{Sort, Leaf, plain, string, Verdict, fine, wrong, Layout, nothing, one, text, _then_, case, check}
+use Rattle.layout.specs.Layout.{Sort, Leaf, plain, string, Layout}
 use Rattle.layout.specs.Written.{rowWidth}
 use Rattle.layout.specs.Reading.{Outcome, ok, refuse, _>>=_, need, plainAt, textAt, read}
 use Rattle.layout.specs.Answers.{Result, Given, wholeRows, acceptance, refusal, tell}
 use Rattle.layout.specs.Alone.{limit, given, readAlone, readingAlone, ExactAlone}
 use Rattle.layout.specs.Theorems.{Bytes}
 use Rattle.layout.proofs.Alone.{alone-exact}
+use Rattle.layout.proofs.Forms.{drive-kept}
 use Rattle.leaf.specs.declared.Cursor.{Cursor}
 use Rattle.leaf.specs.State.{State, state, start, stop, arrive, guarded, plainStep, textStep}
-use Rattle.leaf.specs.Run.{run, pass, verdictOn}
+use Rattle.leaf.specs.Run.{reader, run}
 use Rattle.leaf.specs.Finish.{finished}
 use Rattle.leaf.specs.Theorems.{arriveAll, Follows, Run-alone}
-use Rattle.leaf.proofs.Forms.{Refused}
+use Rattle.leaf.proofs.Still.{Refused}
 use Rattle.leaf.proofs.Table.{arrive-length, arriveAll-length, fills, shorts}
 use Rattle.leaf.proofs.Reading.{arriveAll-refusal, moved-of, stops-of, run-read}
 
@@ -41,21 +42,9 @@ text-length : (s : List ℕ) (st : State) → length (textStep s st .table) ≡ 
 unfolding textStep
 text-length s st = guarded-length s (textAt s (st .cursor .at) >>= λ t next. ok (string t) next) st
 
-pass-length : (v : Verdict) (p : ℕ) (st : State) → length (pass v p st .table) ≡ length (st .table)
-pass-length fine p st = refl
-pass-length (wrong f) p st = refl
-
 pub run-length : (L : Layout) (s : List ℕ) (st : State) → length (run L s st .table) ≡ length (st .table)
-unfolding run
-run-length nothing s st = refl
-run-length (one srt) s st = plain-length srt s st
-run-length text s st = text-length s st
-run-length (A then B) s st = run-length B s (run A s st) ∙ run-length A s st
-run-length (case srt A j B) s st =
-    let st₁ = plainStep srt s st in
-    let n = st₁ .cursor .value in
-    run-length (B n) s (pass (j n) (st .cursor .at) (run A s st₁)) ∙ pass-length (j n) (st .cursor .at) (run A s st₁) ∙ run-length A s st₁ ∙ plain-length srt s st
-run-length (check A j) s st = pass-length (verdictOn j (read A s (st .cursor .at))) (st .cursor .at) (run A s st) ∙ run-length A s st
+run-length L s st =
+    drive-kept (reader s) (λ (x : State). length (x .table)) (record { plainly = λ srt x. plain-length srt s x; textly = text-length s; halted = λ f begin x. refl }) L st
 
 -- Refusals of tables of one length are the same
 refusal-same : (n p : ℕ) (t u : List ℕ) → length t ≡ length u → refusal n p t ≡ refusal n p u

@@ -1,4 +1,4 @@
-pub mod Forms
+pub mod Still
 pub mod Leaves
 pub mod Table
 pub mod Reading

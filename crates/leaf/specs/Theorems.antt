@@ -27,7 +27,7 @@ Run-read =
     (s : List ℕ) → length s ≤ limit → (L : Layout) (st : State) → st .cursor .refusal ≡ 0
     → Follows st (run L s st) (read L s (st .cursor .at))
 
--- A refused cursor stays as it is: `run-refused` in Forms.antt
+-- A refused cursor stays as it is: `run-refused` in Still.antt
 abbrev pub Run-refused : Type 0
 Run-refused = (L : Layout) (s : List ℕ) (st : State) → (st .cursor .refusal ≡ 0 → ⊥) → run L s st ≡ st
 

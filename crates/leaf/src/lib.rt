@@ -21,13 +21,13 @@ pub const ROW_WIDTH: usize = 3;
 // The sorts of a row.
 const SORT_KIND: u32 = 1;
 
-const SORT_TAG: u32 = 2;
+pub const SORT_TAG: u32 = 2;
 
-const SORT_FLAG: u32 = 3;
+pub const SORT_FLAG: u32 = 3;
 
-const SORT_NUMBER: u32 = 4;
+pub const SORT_NUMBER: u32 = 4;
 
-const SORT_COUNT: u32 = 5;
+pub const SORT_COUNT: u32 = 5;
 
 pub const SORT_TEXT: u32 = 6;
 

@@ -1,26 +1,16 @@
 -- Texts stored one after the other, and the Numeric text.
-use Prim.Native.Nat.{ℕ, zero, suc, _+_, _-_, _≤_, _<_}
-use native.Mathlib.Nat.{sub-zero}
+use Prim.Native.Nat.{ℕ, zero, suc, _+_, _-_, _≤_}
+use native.Mathlib.Nat.{sub-zero, zero-add}
 use native.Mathlib.Omega.{arith}
 use mathlib.Core.List.{List, [], _++_}
 use mathlib.Core.Path.{_≡_, refl, sym, ap, _∙_}
-use lib.ListN.{length, getD, take, drop, set, replicate, length-append}
-use lib.Seq.{paste, paste-suc, take-all, take-append-seam, drop-append-add}
+use lib.ListN.{length, take, drop, replicate, length-append, length-replicate}
+use lib.Seq.{take-append-seam, drop-append-add}
 use Rattle.decimal.specs.Decimal.{decimal}
+use Rattle.paste.specs.Pasted.{pasted}
+use Rattle.paste.proofs.Pasted.{pasted-fits}
 use Rattle.parts.specs.declared.NumericSql.{NumericSql}
 use Rattle.parts.specs.Numeric.{numericSize, numericSql}
-use Rattle.parts.specs.Private.{pasted}
-
--- One byte more is stored
-pub paste-more : (out o text : List ℕ) (at i : ℕ) → out ≡ paste o at text i → at + i < length o → i < length text
-    → set out (at + i) (getD text i 0) ≡ paste o at text (i + 1)
-paste-more out o text at i e h k =
-    let a : i + 1 ≡ suc i = omega arith in
-    rw (e, a) (paste-suc o at text i 0 h k)
-
--- All are
-pub paste-all : (out o text : List ℕ) (at i : ℕ) → out ≡ paste o at text i → i ≡ length text → out ≡ pasted o at text
-paste-all out o text at i e q = e ∙ rw (q, take-all (length text) text (omega arith))
 
 -- The bytes hold a text of n bytes, then only 0
 pub record Held (text bytes : List ℕ) (n : ℕ) : Type 0 where
@@ -42,7 +32,8 @@ held {text} {bytes} {bytes₁} {n} {n₁} x h k e =
     let a : take n bytes ≡ text = rw (h .holds, h .size) (take-append-seam text zeros) in
     let b : drop (n + length x) bytes ≡ replicate (numericSize - length (text ++ x)) 0 =
     rw (h .holds, h .size, l) (drop-append-add text zeros (length x) ∙ drop-zeros (length x) (numericSize - length text) ∙ ap (λ (i : ℕ). replicate {A = ℕ} i 0) m) in
-    record { holds = e .1 ∙ rw (a, b); size = sym l }
+    let f : n + length x ≤ length bytes = rw (h .holds) (simp (length-append, length-replicate) (omega arith)) in
+    record { holds = e .1 ∙ pasted-fits bytes n x f ∙ rw (a, b); size = sym l }
 
 -- The first text, where nothing is stored yet
 pub held-first : {bytes : List ℕ} {n : ℕ} (x : List ℕ) → n ≤ numericSize → (n ≡ 0 + length x) × (bytes ≡ pasted (replicate numericSize 0) 0 x) → Held x bytes n
@@ -69,3 +60,7 @@ module _ (text : List ℕ) (x : NumericSql) (e : x ≡ numericSql text) where
   pub text-fits : x .len ≤ length (x .bytes)
   unfolding numericSql
   text-fits = rw e (simp length-append (omega arith))
+
+  -- Stored at the start of a buffer of the size
+  pub text-pasted : (out : List ℕ) → length out ≡ numericSize → x .len ≤ numericSize → pasted out 0 (take (x .len) (x .bytes)) ≡ text ++ drop (length text) out
+  text-pasted out l k = rw text-taken (pasted-fits out 0 text (omega (arith, text-length)) ∙ rw zero-add)

@@ -9,7 +9,7 @@ use lib.ListN.{length, getD, drop, replicate, length-append, length-drop}
 use lib.Seq.{take-append-seam, getD-drop}
 use borrow.Author.Tests.{le-leb, lt-leb, ne-eqb, eqb-true}
 use Rattle.layout.specs.Layout.{Leaf, Tag, Flag, Number, plain, string, fine, Value, leaves}
-use Rattle.layout.specs.Written.{four, bytesOf, rowWidth}
+use Rattle.layout.specs.Written.{four, bytesOf, rowWidth, valueAt}
 use Rattle.layout.specs.Forms.{follows, tags}
 use Rattle.layout.specs.Entities.{Numeric, SqlMapping, sqlMappings, valueIn, asOrNumeric}
 use Rattle.layout.specs.Reading.{Outcome, ok, refuse, _>>=_, need, read}
@@ -28,7 +28,7 @@ use Rattle.parts.specs.declared.OptionU32.{OptionU32}
 use Rattle.parts.specs.Numeric.{numericSize, optionOf}
 use Rattle.parts.specs.SqlText.{TextMapping, SqlText, stored, numeric, numberIf, textOfLeaves, sqlTextOf, sqlText}
 use Rattle.parts.specs.Theorems.{As-part, Filled-part}
-use Rattle.parts.specs.Private.{valueAt, outcomeOf, sizedFor, Within}
+use Rattle.parts.specs.Private.{outcomeOf, sizedFor, Within}
 use Rattle.parts.proofs.Places.{refused-within}
 
 -- What the code finds is right

@@ -1,11 +1,10 @@
 -- What only the private functions of the crate promise one another. No public contract cites anything here.
-use Prim.Native.Nat.{ℕ, _+_, _*_, _≤_}
+use Prim.Native.Nat.{ℕ, _+_, _≤_}
 use mathlib.Core.Bool.{Bool, cond, _&&_}
-use mathlib.Core.List.{List, _++_}
+use mathlib.Core.List.{List}
 use mathlib.Core.Path.{_≡_}
 use lib.Dec.{eqb}
-use lib.ListN.{length, getD, take, drop}
-use Rattle.layout.specs.Written.{rowWidth}
+use lib.ListN.{length, getD}
 use Rattle.layout.specs.Reading.{Outcome, ok, refuse}
 use Rattle.parts.specs.declared.Found.{Found}
 use Rattle.parts.specs.declared.Found.the-variants.{Refused, Stored, Numeric}
@@ -16,14 +15,6 @@ use Rattle.parts.specs.SqlText.{SqlText, stored, numeric}
 -- Two colons stand at a place
 abbrev pub colonsAt : List ℕ → ℕ → Bool
 colonsAt s at = eqb (getD s at 0) colon && eqb (getD s (at + 1) 0) colon
-
--- A list with another stored in it from an index on
-abbrev pub pasted : List ℕ → (at : ℕ) → List ℕ → List ℕ
-pasted out at text = take at out ++ text ++ drop (at + length text) out
-
--- The value of a row of a table
-abbrev pub valueAt : List ℕ → (row : ℕ) → ℕ
-valueAt table row = getD table (rowWidth * row + 2) 0
 
 -- What the code found, as an outcome
 abbrev pub outcomeOf : Found → Outcome ℕ SqlText

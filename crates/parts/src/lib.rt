@@ -4,12 +4,13 @@ ghost use mathlib.Core.Path.{_≡_};
 ghost use Prim.Native.Nat.{_+_, _*_, _<_, _≤_};
 ghost use lib.ListN.{length, drop};
 ghost use Rattle.decimal.specs.Decimal.{decimal};
-ghost use Rattle.layout.specs.Written.{rowWidth};
+ghost use Rattle.layout.specs.Written.{rowWidth, valueAt};
 ghost use Rattle.leaf.specs.State.{start, seek};
+ghost use Rattle.paste.specs.Pasted.{pasted};
 ghost use Rattle.parts.specs.Parts.{rowText, partOf, numberIn, placeIn, sqlName};
 ghost use Rattle.parts.specs.Numeric.{numericText, numericSize, numericSql, optionOf};
 ghost use Rattle.parts.specs.SqlText.{numberIf, sqlText, sqlPartOf, filled};
-ghost use Rattle.parts.specs.Private.{colonsAt, pasted, valueAt, outcomeOf, sizedFor, Within};
+ghost use Rattle.parts.specs.Private.{colonsAt, outcomeOf, sizedFor, Within};
 
 // The place of the value in a row.
 const ROW_VALUE: usize = 2;
@@ -166,13 +167,8 @@ fn put(out: &mut [u8], at: usize, text: &[u8]) -> usize
     requires { ⌜ at + length (now text) ≤ length (now out) ⌝ }
     ensures { λ r. ⌜ (r ≡ at + length (now (text .entry))) × (now (out .exit) ≡ pasted (now (out .entry)) at (now (text .entry))) ⌝ }
 {
-    let mut i = 0;
-    while i < text.len() {
-        let to = at + i;
-        out[to] = text[i];
-        i += 1;
-    }
-    at + i
+    paste::paste(out, at, text);
+    at + text.len()
 }
 
 // Fills the start of a lent buffer with the SQL text of the mapping at an offset, if the mapping is Numeric.
@@ -200,7 +196,7 @@ pub fn fill_sql_text(
             let sql = numeric_sql_string(precision, scale);
             let bytes = sql.bytes;
             let len = sql.len;
-            put(buffer, 0, &bytes[..len]);
+            paste::paste(buffer, 0, &bytes[..len]);
         }
     }
 }

@@ -3,7 +3,7 @@ use native.Mathlib.Omega.{arith}
 use mathlib.Core.List.{[]}
 use mathlib.Core.Logic.{⊎-elim}
 use Rattle.layout.specs.Entities.{Cast}
-use Rattle.leaf.proofs.Forms.{tags-bare, tags-wrong}
+use Rattle.layout.proofs.Forms.{tags-bare, tags-wrong}
 use Rattle.layout.specs.Forms.{bare}
 use Rattle.attribute.proofs.read_cast.Statement.{statement}
 use Rattle.attribute.proofs.read_cast.Tie as tie

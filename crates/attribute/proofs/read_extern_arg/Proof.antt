@@ -4,7 +4,7 @@ use mathlib.Core.List.{_++_}
 use mathlib.Core.Logic.{⊎-elim}
 use mathlib.Core.Path.{_∙_, refl}
 use Rattle.layout.specs.Entities.{ExternArg, bareExternArgs, otherExternArgs}
-use Rattle.leaf.proofs.Forms.{tags-bare, tags-in, tags-wrong}
+use Rattle.layout.proofs.Forms.{tags-bare, tags-in, tags-wrong}
 use Rattle.attribute.proofs.read_extern_arg.Statement.{statement}
 use Rattle.attribute.proofs.read_extern_arg.Tie as tie
 

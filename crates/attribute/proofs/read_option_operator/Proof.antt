@@ -1,7 +1,7 @@
 -- The thing follows, or its flag is 0.
 use mathlib.Core.Path.{_∙_}
 use Rattle.layout.specs.Entities.{OptionOperator}
-use Rattle.leaf.proofs.Forms.{may-in, may-out}
+use Rattle.layout.proofs.Forms.{may-in, may-out}
 use Rattle.attribute.proofs.read_option_operator.Statement.{statement}
 use Rattle.attribute.proofs.read_option_operator.Tie as tie
 

@@ -2,7 +2,7 @@
 use native.Mathlib.Omega.{arith}
 use mathlib.Core.Path.{_∙_, refl}
 use Rattle.layout.specs.Entities.{PositioningRef, positioningRefs}
-use Rattle.leaf.proofs.Forms.{tags-in, tags-wrong}
+use Rattle.layout.proofs.Forms.{tags-in, tags-wrong}
 use Rattle.attribute.proofs.read_positioning_ref.Statement.{statement}
 use Rattle.attribute.proofs.read_positioning_ref.Tie as tie
 

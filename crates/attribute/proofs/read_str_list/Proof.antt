@@ -5,7 +5,8 @@ use native.Mathlib.Omega.{arith}
 use mathlib.Core.Path.{_≡_, refl}
 use lib.ListN.{length}
 use borrow.Author.Needs.{needs}
-use Rattle.leaf.proofs.Forms.{list-in, loop-on, loop-end, loop-refused}
+use Rattle.layout.proofs.Forms.{list-in, loop-on, loop-end}
+use Rattle.leaf.proofs.Still.{loop-refused}
 use Rattle.leaf.specs.Run.{run}
 use Rattle.leaf.specs.State.{state}
 use Rattle.layout.specs.Layout.{text}

@@ -1,7 +1,7 @@
 -- The parts, one after the other.
 use mathlib.Core.Path.{_∙_}
 use Rattle.layout.specs.Entities.{ToSqlConfig}
-use Rattle.leaf.proofs.Forms.{then-in}
+use Rattle.layout.proofs.Forms.{then-in}
 use Rattle.attribute.proofs.read_to_sql_config.Statement.{statement}
 use Rattle.attribute.proofs.read_to_sql_config.Tie as tie
 

@@ -3,7 +3,7 @@ use mathlib.Core.Path.{sym, _∙_}
 use borrow.Author.Needs.{needs}
 use borrow.Author.Tests.{ne-eqb}
 use Rattle.declared.proofs.Result.{result-refused, result-left, verdict-error, mapping-left, verdict-mapping}
-use Rattle.leaf.proofs.Forms.{check-law}
+use Rattle.layout.proofs.Forms.{check-law}
 use Rattle.layout.specs.Entities.{DeclaredSql}
 use Rattle.declared.proofs.read_declared_sql.Statement.{statement}
 use Rattle.declared.proofs.read_declared_sql.Tie as tie

@@ -1,7 +1,7 @@
 -- The parts, one after the other.
 use mathlib.Core.Path.{_∙_}
 use Rattle.layout.specs.Entities.{DeclaredType}
-use Rattle.leaf.proofs.Forms.{then-in}
+use Rattle.layout.proofs.Forms.{then-in}
 use Rattle.declared.proofs.read_declared_type.Statement.{statement}
 use Rattle.declared.proofs.read_declared_type.Tie as tie
 

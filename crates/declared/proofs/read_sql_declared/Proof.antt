@@ -2,7 +2,7 @@
 use native.Mathlib.Omega.{arith}
 use mathlib.Core.Path.{refl}
 use borrow.Author.Needs.{needs}
-use Rattle.leaf.proofs.Forms.{after-in, after-wrong, run-nothing}
+use Rattle.layout.proofs.Forms.{after-in, after-wrong, drive-nothing}
 use Rattle.layout.specs.Entities.{SqlDeclared, sqlDeclareds}
 use Rattle.layout.specs.Layout.{text}
 use Rattle.declared.proofs.read_sql_declared.Statement.{statement}
@@ -42,7 +42,7 @@ same-length-3 c = search needs
 
 returns-3 : tie.Need-returns-3
 unfolding SqlDeclared
-returns-3 c = after-in text sqlDeclareds 3 _ _ _ _ _ (c .before .before .before .before .before .before .before .read-u8 .ensures) (c .before .before .before .read-str .ensures) (c .match .keys3) refl (run-nothing _ _)
+returns-3 c = after-in text sqlDeclareds 3 _ _ _ _ _ (c .before .before .before .before .before .before .before .read-u8 .ensures) (c .before .before .before .read-str .ensures) (c .match .keys3) refl (drive-nothing _ _)
 
 same-length-4 : tie.Need-same-length-4
 same-length-4 c = search needs

@@ -2,7 +2,7 @@
 use mathlib.Core.Path.{_∙_}
 use Rattle.entity.specs.Private.{AggregateName, AggregateTypes, AggregateFunctions, MovingAggregate, AggregateOptions}
 use Rattle.layout.specs.Entities.{Aggregate}
-use Rattle.leaf.specs.Run.{run}
+use Rattle.layout.specs.Machine.{drive}
 use Rattle.entity.proofs.read_aggregate.Statement.{statement}
 use Rattle.entity.proofs.read_aggregate.Tie as tie
 
@@ -28,7 +28,7 @@ same-length : tie.Need-same-length
 same-length c = c .before .before .read-to-sql-config .kept .1 .1 .0 ∙ c .before .before .before .before .before .before .read-aggregate-options .kept .1 .1 .0 ∙ c .before .before .before .before .before .before .before .before .before .before .read-moving-aggregate .kept .1 .1 .0 ∙ c .before .before .before .before .before .before .before .before .before .before .before .before .before .before .read-aggregate-functions .kept .1 .1 .0 ∙ c .before .before .before .before .before .before .before .before .before .before .before .before .before .before .before .before .before .before .read-aggregate-types .kept .1 .1 .0 ∙ c .before .before .before .before .before .before .before .before .before .before .before .before .before .before .before .before .before .before .before .before .before .before .read-aggregate-name .kept .1 .1 .0
 
 returns : tie.Need-returns
-unfolding run Aggregate AggregateName AggregateTypes AggregateFunctions MovingAggregate AggregateOptions
+unfolding drive Aggregate AggregateName AggregateTypes AggregateFunctions MovingAggregate AggregateOptions
 returns c = cc (c .before .before .before .before .before .before .before .before .before .before .before .before .before .before .before .before .before .before .before .before .before .before .read-aggregate-name .ensures, c .before .before .before .before .before .before .before .before .before .before .before .before .before .before .before .before .before .before .read-aggregate-types .ensures, c .before .before .before .before .before .before .before .before .before .before .before .before .before .before .read-aggregate-functions .ensures, c .before .before .before .before .before .before .before .before .before .before .read-moving-aggregate .ensures, c .before .before .before .before .before .before .read-aggregate-options .ensures, c .before .before .read-to-sql-config .ensures)
 
 pub read-aggregate-spec : {M : Type 1} → statement M

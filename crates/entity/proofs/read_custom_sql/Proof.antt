@@ -2,7 +2,7 @@
 use mathlib.Core.Path.{_∙_}
 use Rattle.entity.specs.Private.{CustomSqlText}
 use Rattle.layout.specs.Entities.{CustomSql}
-use Rattle.leaf.specs.Run.{run}
+use Rattle.layout.specs.Machine.{drive}
 use Rattle.entity.proofs.read_custom_sql.Statement.{statement}
 use Rattle.entity.proofs.read_custom_sql.Tie as tie
 
@@ -25,7 +25,7 @@ same-length : tie.Need-same-length
 same-length c = c .before .before .read-sql-declared-list .kept .1 .1 .0 ∙ c .before .before .before .before .before .before .read-positioning-ref-list .kept .1 .1 .0 ∙ c .before .before .before .before .before .before .before .before .before .before .read-bool2 .kept .1 .1 .0 ∙ c .before .before .before .before .before .before .before .before .before .before .before .before .before .before .read-bool .kept .1 .1 .0 ∙ c .before .before .before .before .before .before .before .before .before .before .before .before .before .before .before .before .before .before .read-custom-sql-text .kept .1 .1 .0
 
 returns : tie.Need-returns
-unfolding run CustomSql CustomSqlText
+unfolding drive CustomSql CustomSqlText
 returns c = cc (c .before .before .before .before .before .before .before .before .before .before .before .before .before .before .before .before .before .before .read-custom-sql-text .ensures, c .before .before .before .before .before .before .before .before .before .before .before .before .before .before .read-bool .ensures, c .before .before .before .before .before .before .before .before .before .before .read-bool2 .ensures, c .before .before .before .before .before .before .read-positioning-ref-list .ensures, c .before .before .read-sql-declared-list .ensures)
 
 pub read-custom-sql-spec : {M : Type 1} → statement M

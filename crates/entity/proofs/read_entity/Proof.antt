@@ -1,7 +1,7 @@
 -- Each known kind, and the rest.
 use mathlib.Core.Path.{_∙_, refl}
 use Rattle.layout.specs.Entities.{Entity, entities}
-use Rattle.leaf.proofs.Forms.{kinds-in, kinds-wrong}
+use Rattle.layout.proofs.Forms.{kinds-in, kinds-wrong}
 use Rattle.entity.proofs.read_entity.Statement.{statement}
 use Rattle.entity.proofs.read_entity.Tie as tie
 

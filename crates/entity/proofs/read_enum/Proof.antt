@@ -2,7 +2,7 @@
 use mathlib.Core.Path.{_∙_}
 use Rattle.entity.specs.Private.{NameFileLine, TypePaths}
 use Rattle.layout.specs.Entities.{PostgresEnum}
-use Rattle.leaf.specs.Run.{run}
+use Rattle.layout.specs.Machine.{drive}
 use Rattle.entity.proofs.read_enum.Statement.{statement}
 use Rattle.entity.proofs.read_enum.Tie as tie
 
@@ -22,7 +22,7 @@ same-length : tie.Need-same-length
 same-length c = c .before .before .read-to-sql-config .kept .1 .1 .0 ∙ c .before .before .before .before .before .before .read-str-list .kept .1 .1 .0 ∙ c .before .before .before .before .before .before .before .before .before .before .read-type-paths .kept .1 .1 .0 ∙ c .before .before .before .before .before .before .before .before .before .before .before .before .before .before .read-name-file-line .kept .1 .1 .0
 
 returns : tie.Need-returns
-unfolding run PostgresEnum NameFileLine TypePaths
+unfolding drive PostgresEnum NameFileLine TypePaths
 returns c = cc
 
 pub read-enum-spec : {M : Type 1} → statement M

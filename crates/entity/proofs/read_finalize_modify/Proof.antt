@@ -3,7 +3,7 @@ use native.Mathlib.Omega.{arith}
 use mathlib.Core.List.{[]}
 use mathlib.Core.Logic.{⊎-elim}
 use Rattle.layout.specs.Entities.{FinalizeModify}
-use Rattle.leaf.proofs.Forms.{tags-bare, tags-wrong}
+use Rattle.layout.proofs.Forms.{tags-bare, tags-wrong}
 use Rattle.layout.specs.Forms.{bare}
 use Rattle.entity.proofs.read_finalize_modify.Statement.{statement}
 use Rattle.entity.proofs.read_finalize_modify.Tie as tie

@@ -2,7 +2,7 @@
 use mathlib.Core.Path.{_∙_}
 use Rattle.entity.specs.Private.{FunctionSignature, FunctionOrigin, FunctionOptions}
 use Rattle.layout.specs.Entities.{Function}
-use Rattle.leaf.specs.Run.{run}
+use Rattle.layout.specs.Machine.{drive}
 use Rattle.entity.proofs.read_function.Statement.{statement}
 use Rattle.entity.proofs.read_function.Tie as tie
 
@@ -22,7 +22,7 @@ same-length : tie.Need-same-length
 same-length c = c .before .before .read-to-sql-config .kept .1 .1 .0 ∙ c .before .before .before .before .before .before .read-function-options .kept .1 .1 .0 ∙ c .before .before .before .before .before .before .before .before .before .before .read-function-origin .kept .1 .1 .0 ∙ c .before .before .before .before .before .before .before .before .before .before .before .before .before .before .read-function-signature .kept .1 .1 .0
 
 returns : tie.Need-returns
-unfolding run Function FunctionSignature FunctionOrigin FunctionOptions
+unfolding drive Function FunctionSignature FunctionOrigin FunctionOptions
 returns c = cc
 
 pub read-function-spec : {M : Type 1} → statement M

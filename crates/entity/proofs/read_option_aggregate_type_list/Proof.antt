@@ -1,7 +1,7 @@
 -- The thing follows, or its flag is 0.
 use mathlib.Core.Path.{_∙_}
 use Rattle.layout.specs.Entities.{OptionAggregateTypeList}
-use Rattle.leaf.proofs.Forms.{may-in, may-out}
+use Rattle.layout.proofs.Forms.{may-in, may-out}
 use Rattle.entity.proofs.read_option_aggregate_type_list.Statement.{statement}
 use Rattle.entity.proofs.read_option_aggregate_type_list.Tie as tie
 

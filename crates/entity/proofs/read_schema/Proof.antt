@@ -1,7 +1,7 @@
 -- The parts, one after the other.
 use mathlib.Core.Path.{_∙_}
 use Rattle.layout.specs.Entities.{Schema}
-use Rattle.leaf.proofs.Forms.{then-in}
+use Rattle.layout.proofs.Forms.{then-in}
 use Rattle.entity.proofs.read_schema.Statement.{statement}
 use Rattle.entity.proofs.read_schema.Tie as tie
 

@@ -2,7 +2,7 @@
 use mathlib.Core.Path.{_∙_}
 use Rattle.entity.specs.Private.{NameFileLine}
 use Rattle.layout.specs.Entities.{Trigger}
-use Rattle.leaf.specs.Run.{run}
+use Rattle.layout.specs.Machine.{drive}
 use Rattle.entity.proofs.read_trigger.Statement.{statement}
 use Rattle.entity.proofs.read_trigger.Tie as tie
 
@@ -22,7 +22,7 @@ same-length : tie.Need-same-length
 same-length c = c .before .before .read-to-sql-config .kept .1 .1 .0 ∙ c .before .before .before .before .before .before .read-str2 .kept .1 .1 .0 ∙ c .before .before .before .before .before .before .before .before .before .before .read-str .kept .1 .1 .0 ∙ c .before .before .before .before .before .before .before .before .before .before .before .before .before .before .read-name-file-line .kept .1 .1 .0
 
 returns : tie.Need-returns
-unfolding run Trigger NameFileLine
+unfolding drive Trigger NameFileLine
 returns c = cc
 
 pub read-trigger-spec : {M : Type 1} → statement M

@@ -2,7 +2,7 @@
 use mathlib.Core.Path.{_∙_}
 use Rattle.entity.specs.Private.{NameFileLine, TypePaths, TypeFunctions}
 use Rattle.layout.specs.Entities.{PostgresType}
-use Rattle.leaf.specs.Run.{run}
+use Rattle.layout.specs.Machine.{drive}
 use Rattle.entity.proofs.read_type.Statement.{statement}
 use Rattle.entity.proofs.read_type.Tie as tie
 
@@ -25,7 +25,7 @@ same-length : tie.Need-same-length
 same-length c = c .before .before .read-option-u32 .kept .1 .1 .0 ∙ c .before .before .before .before .before .before .read-to-sql-config .kept .1 .1 .0 ∙ c .before .before .before .before .before .before .before .before .before .before .read-type-functions .kept .1 .1 .0 ∙ c .before .before .before .before .before .before .before .before .before .before .before .before .before .before .read-type-paths .kept .1 .1 .0 ∙ c .before .before .before .before .before .before .before .before .before .before .before .before .before .before .before .before .before .before .read-name-file-line .kept .1 .1 .0
 
 returns : tie.Need-returns
-unfolding run PostgresType NameFileLine TypePaths TypeFunctions
+unfolding drive PostgresType NameFileLine TypePaths TypeFunctions
 returns c = cc (c .before .before .before .before .before .before .before .before .before .before .before .before .before .before .before .before .before .before .read-name-file-line .ensures, c .before .before .before .before .before .before .before .before .before .before .before .before .before .before .read-type-paths .ensures, c .before .before .before .before .before .before .before .before .before .before .read-type-functions .ensures, c .before .before .before .before .before .before .read-to-sql-config .ensures, c .before .before .read-option-u32 .ensures)
 
 pub read-type-spec : {M : Type 1} → statement M

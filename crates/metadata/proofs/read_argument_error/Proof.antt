@@ -4,7 +4,7 @@ use mathlib.Core.List.{[], _∷_}
 use mathlib.Core.Logic.{⊎-elim}
 use mathlib.Core.Path.{_∙_, refl}
 use Rattle.layout.specs.Entities.{ArgumentError, argumentErrors}
-use Rattle.leaf.proofs.Forms.{tags-bare, tags-in, tags-wrong}
+use Rattle.layout.proofs.Forms.{tags-bare, tags-in, tags-wrong}
 use Rattle.layout.specs.Forms.{_⇒_}
 use Rattle.layout.specs.Layout.{text}
 use Rattle.metadata.proofs.read_argument_error.Statement.{statement}

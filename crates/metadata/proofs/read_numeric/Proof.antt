@@ -1,7 +1,7 @@
 -- The parts, one after the other.
 use mathlib.Core.Path.{_∙_}
 use Rattle.layout.specs.Entities.{Numeric}
-use Rattle.leaf.proofs.Forms.{then-in}
+use Rattle.layout.proofs.Forms.{then-in}
 use Rattle.metadata.proofs.read_numeric.Statement.{statement}
 use Rattle.metadata.proofs.read_numeric.Tie as tie
 

@@ -1,7 +1,7 @@
 -- The thing follows, or its flag is 0.
 use mathlib.Core.Path.{_∙_}
 use Rattle.layout.specs.Entities.{OptionResolution}
-use Rattle.leaf.proofs.Forms.{may-in, may-out}
+use Rattle.layout.proofs.Forms.{may-in, may-out}
 use Rattle.metadata.proofs.read_option_resolution.Statement.{statement}
 use Rattle.metadata.proofs.read_option_resolution.Tie as tie
 

@@ -2,7 +2,7 @@
 use native.Mathlib.Omega.{arith}
 use mathlib.Core.Path.{_∙_, refl}
 use Rattle.layout.specs.Entities.{ReturnSql, returnResults}
-use Rattle.leaf.proofs.Forms.{tags-in, tags-wrong}
+use Rattle.layout.proofs.Forms.{tags-in, tags-wrong}
 use Rattle.metadata.proofs.read_return_sql.Statement.{statement}
 use Rattle.metadata.proofs.read_return_sql.Tie as tie
 

@@ -2,7 +2,7 @@
 use native.Mathlib.Omega.{arith}
 use mathlib.Core.Path.{_∙_, refl}
 use Rattle.layout.specs.Entities.{SqlArrayMapping, sqlArrayMappings}
-use Rattle.leaf.proofs.Forms.{run-nothing, tags-in, tags-wrong}
+use Rattle.layout.proofs.Forms.{drive-nothing, tags-in, tags-wrong}
 use Rattle.metadata.proofs.read_sql_array_mapping.Statement.{statement}
 use Rattle.metadata.proofs.read_sql_array_mapping.Tie as tie
 
@@ -37,7 +37,7 @@ same-length-3 c = c .before .before .before .read-u8 .kept .1 .1 .0
 
 returns-3 : tie.Need-returns-3
 unfolding SqlArrayMapping
-returns-3 c = tags-in sqlArrayMappings 4 _ _ _ _ (c .before .before .before .read-u8 .ensures) (c .match .keys3) refl (run-nothing _ _)
+returns-3 c = tags-in sqlArrayMappings 4 _ _ _ _ (c .before .before .before .read-u8 .ensures) (c .match .keys3) refl (drive-nothing _ _)
 
 same-length-4 : tie.Need-same-length-4
 same-length-4 c = c .before .before .before .before .read-u8 .kept .1 .1 .0

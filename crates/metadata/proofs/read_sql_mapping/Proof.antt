@@ -2,7 +2,7 @@
 use native.Mathlib.Omega.{arith}
 use mathlib.Core.Path.{_∙_, refl}
 use Rattle.layout.specs.Entities.{SqlMapping, sqlMappings}
-use Rattle.leaf.proofs.Forms.{run-nothing, tags-in, tags-wrong}
+use Rattle.layout.proofs.Forms.{drive-nothing, tags-in, tags-wrong}
 use Rattle.metadata.proofs.read_sql_mapping.Statement.{statement}
 use Rattle.metadata.proofs.read_sql_mapping.Tie as tie
 
@@ -47,14 +47,14 @@ same-length-4 c = c .before .before .before .read-u8 .kept .1 .1 .0
 
 returns-4 : tie.Need-returns-4
 unfolding SqlMapping
-returns-4 c = tags-in sqlMappings 4 _ _ _ _ (c .before .before .before .read-u8 .ensures) (c .match .keys4) refl (run-nothing _ _)
+returns-4 c = tags-in sqlMappings 4 _ _ _ _ (c .before .before .before .read-u8 .ensures) (c .match .keys4) refl (drive-nothing _ _)
 
 same-length-5 : tie.Need-same-length-5
 same-length-5 c = c .before .before .before .read-u8 .kept .1 .1 .0
 
 returns-5 : tie.Need-returns-5
 unfolding SqlMapping
-returns-5 c = tags-in sqlMappings 5 _ _ _ _ (c .before .before .before .read-u8 .ensures) (c .match .keys5) refl (run-nothing _ _)
+returns-5 c = tags-in sqlMappings 5 _ _ _ _ (c .before .before .before .read-u8 .ensures) (c .match .keys5) refl (drive-nothing _ _)
 
 same-length-6 : tie.Need-same-length-6
 same-length-6 c = c .before .before .before .before .read-u8 .kept .1 .1 .0

@@ -3,7 +3,7 @@ use native.Mathlib.Omega.{arith}
 use mathlib.Core.List.{[]}
 use mathlib.Core.Logic.{⊎-elim}
 use Rattle.layout.specs.Entities.{TypeOrigin}
-use Rattle.leaf.proofs.Forms.{tags-bare, tags-wrong}
+use Rattle.layout.proofs.Forms.{tags-bare, tags-wrong}
 use Rattle.layout.specs.Forms.{bare}
 use Rattle.metadata.proofs.read_type_origin.Statement.{statement}
 use Rattle.metadata.proofs.read_type_origin.Tie as tie

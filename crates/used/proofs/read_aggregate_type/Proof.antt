@@ -1,7 +1,7 @@
 -- The parts, one after the other.
 use mathlib.Core.Path.{_∙_}
 use Rattle.layout.specs.Entities.{AggregateType}
-use Rattle.leaf.proofs.Forms.{then-in}
+use Rattle.layout.proofs.Forms.{then-in}
 use Rattle.used.proofs.read_aggregate_type.Statement.{statement}
 use Rattle.used.proofs.read_aggregate_type.Tie as tie
 

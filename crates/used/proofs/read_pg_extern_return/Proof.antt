@@ -2,7 +2,7 @@
 use native.Mathlib.Omega.{arith}
 use mathlib.Core.Path.{_∙_, refl}
 use Rattle.layout.specs.Entities.{PgExternReturn, pgExternReturns}
-use Rattle.leaf.proofs.Forms.{run-nothing, tags-in, tags-wrong}
+use Rattle.layout.proofs.Forms.{drive-nothing, tags-in, tags-wrong}
 use Rattle.used.proofs.read_pg_extern_return.Statement.{statement}
 use Rattle.used.proofs.read_pg_extern_return.Tie as tie
 
@@ -26,7 +26,7 @@ same-length c = c .before .before .before .read-u8 .kept .1 .1 .0
 
 returns : tie.Need-returns
 unfolding PgExternReturn
-returns c = tags-in pgExternReturns 1 _ _ _ _ (c .before .before .before .read-u8 .ensures) (c .match .keys1) refl (run-nothing _ _)
+returns c = tags-in pgExternReturns 1 _ _ _ _ (c .before .before .before .read-u8 .ensures) (c .match .keys1) refl (drive-nothing _ _)
 
 same-length-2 : tie.Need-same-length-2
 same-length-2 c = c .before .before .read-used-type .kept .1 .1 .0 ∙ c .before .before .before .before .before .before .before .read-u8 .kept .1 .1 .0
@@ -54,7 +54,7 @@ same-length-5 c = c .before .before .before .read-u8 .kept .1 .1 .0
 
 returns-5 : tie.Need-returns-5
 unfolding PgExternReturn
-returns-5 c = tags-in pgExternReturns 5 _ _ _ _ (c .before .before .before .read-u8 .ensures) (c .match .keys5) refl (run-nothing _ _)
+returns-5 c = tags-in pgExternReturns 5 _ _ _ _ (c .before .before .before .read-u8 .ensures) (c .match .keys5) refl (drive-nothing _ _)
 
 same-length-6 : tie.Need-same-length-6
 same-length-6 c = c .before .before .before .before .read-u8 .kept .1 .1 .0

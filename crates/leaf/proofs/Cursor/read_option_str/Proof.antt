@@ -1,6 +1,6 @@
 -- The text follows, or its flag is 0.
 use borrow.Author.Needs.{needs}
-use Rattle.leaf.proofs.Forms.{may-in, may-out}
+use Rattle.layout.proofs.Forms.{may-in, may-out}
 use Rattle.layout.specs.Entities.{OptionStr}
 use Rattle.leaf.proofs.Cursor.read_option_str.Statement.{statement}
 use Rattle.leaf.proofs.Cursor.read_option_str.Tie as tie

@@ -1,6 +1,6 @@
 -- The number follows, or its flag is 0.
 use borrow.Author.Needs.{needs}
-use Rattle.leaf.proofs.Forms.{may-in, may-out}
+use Rattle.layout.proofs.Forms.{may-in, may-out}
 use Rattle.layout.specs.Entities.{OptionU32}
 use Rattle.leaf.proofs.Cursor.read_option_u32.Statement.{statement}
 use Rattle.leaf.proofs.Cursor.read_option_u32.Tie as tie

@@ -1,0 +1,67 @@
+-- What the two passes over the rows come to, from what the functions promise that make them.
+use Prim.Native.Nat.{ℕ}
+use native.Mathlib.Omega.{arith}
+use mathlib.Core.Bool.{Bool, true, false, cond}
+use mathlib.Core.List.{List, _++_}
+use mathlib.Core.Path.{_≡_, refl, sym, ap, _∙_}
+use lib.Dec.{leb}
+use lib.ListN.{length, drop}
+use Rattle.layout.specs.Layout.{Layout}
+use Rattle.layout.specs.Reading.{Outcome, ok, refuse, _>>=_, need}
+use Rattle.length.specs.Length.{Length, counted, refused}
+use Rattle.entry_writer.specs.declared.EntryWriter.{EntryWriter}
+use Rattle.entry_writer.specs.Writing.{measured, write, fitting, lengthIn, written}
+use Rattle.entry_writer.specs.State.{State, state, start}
+use Rattle.entry_writer.specs.Run.{run, finished}
+use Rattle.entry_writer.proofs.Measured.{measured-law}
+use Rattle.entry_writer.proofs.Stored.{stored-law}
+
+-- 17 is all that comes after the length
+write-length : (L : Layout) (rows text : List ℕ) (size : ℕ) → fitting (lengthIn (measured L rows text)) size ≡ lengthIn (write L rows text size)
+unfolding write
+write-length L rows text size = go (measured L rows text)
+  where
+    fits : (t : Bool) (b : List ℕ) (n : ℕ) → cond t (counted n) (refused 17 0) ≡ lengthIn (need t 17 0 (ok b n))
+    fits true b n = refl
+    fits false b n = refl
+
+    go : (m : Outcome ℕ (List ℕ)) → fitting (lengthIn m) size ≡ lengthIn (m >>= λ b n. need (leb n size) 17 0 (ok b n))
+    go (ok b n) = fits (leb n size) b n
+    go (refuse n p) = refl
+
+not-refused : (k n p : ℕ) → counted k ≡ refused n p → ⊥
+not-refused k n p z = let w : _≡_ {A = ℕ} 0 1 = cc in omega arith
+
+module _ (L : Layout) (rows text dest : List ℕ) where
+  -- The length and the destination that a writing promises
+  abbrev Encoded : Length → (after : List ℕ) → Type 0
+  Encoded l after = (l ≡ lengthIn (write L rows text (length dest))) × (after ≡ written (write L rows text (length dest)) dest)
+
+  module _ (after : List ℕ) (w r : EntryWriter) (b : state r after ≡ run L rows text (state w dest)) where
+    -- The first pass gives the length
+    pub first-pass : (l : Length) → w ≡ start false → l ≡ finished rows r → l ≡ lengthIn (measured L rows text)
+    first-pass l a e =
+        e ∙ ap (λ (x : State). finished rows (x .writer)) (b ∙ ap (λ (x : EntryWriter). run L rows text (state x dest)) a) ∙ measured-law L rows text dest
+
+    -- The second stores the bytes
+    stored : w ≡ start true → (c : List ℕ) (n : ℕ) → write L rows text (length dest) ≡ ok c n → after ≡ c ++ drop n dest
+    stored a c n e = ap (λ (x : State). x .dest) (b ∙ ap (λ (x : EntryWriter). run L rows text (state x dest)) a) ∙ stored-law L rows text dest c n e
+
+  module _ (m l : Length) (e : m ≡ lengthIn (measured L rows text)) (f : l ≡ fitting m (length dest)) where
+    whole : l ≡ lengthIn (write L rows text (length dest))
+    whole = f ∙ ap (λ (x : Length). fitting x (length dest)) e ∙ write-length L rows text (length dest)
+
+    -- No second pass
+    pub refused-whole : (n p : ℕ) → l ≡ refused n p → Encoded l dest
+    refused-whole n p q = go (write L rows text (length dest)) refl
+      where
+        go : (o : Outcome ℕ (List ℕ)) → write L rows text (length dest) ≡ o → Encoded l dest
+        go (refuse a b) w = rw w (whole ∙ ap lengthIn w, refl)
+        go (ok b k) w = absurd (not-refused k n p (sym (ap lengthIn w) ∙ sym whole ∙ q))
+
+    pub second-pass : (n : ℕ) → l ≡ counted n → (after : List ℕ) (w r : EntryWriter) → w ≡ start true → state r after ≡ run L rows text (state w dest) → Encoded l after
+    second-pass n q after w r a b = go (write L rows text (length dest)) refl
+      where
+        go : (o : Outcome ℕ (List ℕ)) → write L rows text (length dest) ≡ o → Encoded l after
+        go (refuse x y) z = absurd (not-refused n x y (sym q ∙ whole ∙ ap lengthIn z))
+        go (ok c k) z = rw z (whole ∙ ap lengthIn z, stored after w r b a c k z)

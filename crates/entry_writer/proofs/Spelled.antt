@@ -1,0 +1,262 @@
+-- What rows spell: the reading from rows finds it, and only it.
+use Prim.Native.Nat.{ℕ, zero, suc, _+_, _*_, _≤_, _<_}
+use native.Mathlib.Omega.{arith}
+use mathlib.Core.Bool.{Bool, true, false, cond, _&&_, and-eq-true-iff}
+use mathlib.Core.List.{List, [], _∷_}
+use mathlib.Core.Path.{_≡_, refl, sym, ap, subst, _∙_}
+use lib.Dec.{eqb, leb}
+use lib.ListN.{length, length-append}
+use borrow.Author.Tests.{eqb-true, eqb-false, eq-eqb, ltb-true, lt-ltb, leb-true, leb-false, le-leb, lt-leb}
+use Rattle.text.specs.Rfc3629.{Utf8}
+use Rattle.text.proofs.Exact.{utf8-exact}
+use Rattle.layout.specs.Layout.{Leaf, plain, string, Layout, Value, leaves, Meets, bound, Fits}
+use Rattle.layout.specs.Written.{leafBytes, bytesOf, bytes, rowWidth, sortNumber, sortAt}
+use Rattle.layout.specs.Reading.{Outcome, ok, refuse, _>>=_, need, walk, utf8}
+use Rattle.layout.specs.Answers.{wholeRows}
+use Rattle.layout.specs.Alone.{limit}
+use Rattle.layout.proofs.Each.{Each, each-of, meets-each}
+use Rattle.layout.proofs.Walk.{All, given, refused, all-ok, all-bind, all-need, all-when, Sound, Complete, sound, complete}
+use Rattle.entry_writer.specs.Rows.{isRow, lentAt, inRows, staysAt, goodAt, goodRows}
+use Rattle.entry_writer.specs.Writing.{fourteen, spelled, measured, write}
+use Rattle.entry_writer.specs.Refusals.{RowGives, Along, Sized, Spells, GoodText, GoodTexts, Refusal, not-spelled, bad-text, too-long, no-space}
+use Rattle.entry_writer.proofs.Along.{along-join, along-part, along-at, along-map}
+use Rattle.entry_writer.specs.Theorems.{Write-exact, Spells-proper, Spells-unique, Write-refused}
+
+module _ (rows text : List ℕ) where
+  -- A row is there and gives a leaf
+  abbrev pub There : (row : ℕ) → Leaf → Type 0
+  There i x = (i < wholeRows rows) × RowGives rows text i x
+
+  -- The rows from i on do
+  abbrev pub Given : (row : ℕ) → List Leaf → Type 0
+  Given = Along There
+
+  pub given-there : (i : ℕ) (ls : List Leaf) → Given i ls → (k : ℕ) → i ≤ k → k < i + length ls → k < wholeRows rows
+  given-there = along-at There (λ k. k < wholeRows rows) (λ k x h. h .0)
+
+  -- And the next row comes behind them
+  pub record Begins (i : ℕ) (ls : List Leaf) (end : ℕ) : Type 0 where
+    pub gives : Given i ls
+    pub ends : end ≡ i + length ls
+
+  row-there : (i sort : ℕ) → isRow rows i sort ≡ true → (i < wholeRows rows) × (sortAt rows i ≡ sort)
+  row-there i sort e = let (a, b) = and-eq-true-iff _ _ .0 e in (ltb-true _ _ a, eqb-true _ _ b)
+
+  there-row : (i sort : ℕ) → i < wholeRows rows → sortAt rows i ≡ sort → isRow rows i sort ≡ true
+  there-row i sort h e = rw (lt-ltb i (wholeRows rows) h, eq-eqb (sortAt rows i) sort e)
+
+  rows-sound : Sound (inRows rows text) Sized Begins
+  rows-sound = record {
+    none = λ i. record { gives = tt; ends = omega arith };
+    join = λ {st} {m} {end} a b h k. record { gives = along-join There st m a b (h .ends) (h .gives) (k .gives); ends = k .ends ∙ omega (arith, h .ends, length-append a b) };
+    plainly = λ srt i.
+        all-need _ 14 0 _ λ e.
+        all-need _ 14 0 _ λ f.
+        let (h, k) = row-there i (sortNumber srt) e in
+        given (ltb-true _ _ f, record { gives = ((h, (k, refl)), tt); ends = refl });
+    textly = λ i.
+        all-need _ 14 0 _ λ e.
+        let (h, k) = row-there i 6 e in
+        given (tt, record { gives = ((h, (k, refl)), tt); ends = refl });
+  }
+
+  rows-complete : Complete (inRows rows text) Sized Begins
+  rows-complete = record {
+    none = λ h. omega (arith, h .ends);
+    part = λ {st} {end} a b h.
+        let (g, k) = along-part There st a b (h .gives) in
+        (st + length a, record { gives = g; ends = refl }, record { gives = k; ends = h .ends ∙ omega (arith, length-append a b) });
+    plainly = λ {st} {end} srt n f h.
+        let ((k, (s, v)), u) = h .gives in
+        let e : st + 1 ≡ end = omega (arith, h .ends) in
+        rw (there-row st (sortNumber srt) k s, v, lt-ltb n (bound srt) f, e);
+    textly = λ {st} {end} t f h.
+        let ((k, (s, v)), u) = h .gives in
+        let e : st + 1 ≡ end = omega (arith, h .ends) in
+        rw (there-row st 6 k s, v, e);
+  }
+
+all-fourteen : {A : Type 0} {P : A → ℕ → Type 0} (m : Outcome ℕ A) → All P m → All P (fourteen m)
+all-fourteen m (given h) = given h
+all-fourteen m refused = refused
+
+module _ (L : Layout) (rows text : List ℕ) where
+  pub whole-rows : (n : ℕ) → length rows ≡ rowWidth * n → wholeRows rows ≡ n
+  whole-rows n e = omega arith
+
+  pub spells-given : (v : Value L) → Spells L rows text v → Given rows text 0 (leaves L v)
+  spells-given v s = along-map (RowGives rows text) (There rows text) 0 (leaves L v) (λ k x a b g. (omega (arith, whole-rows (length (leaves L v)) (s .whole)), g)) (s .give)
+
+  pub walked : (v : Value L) → Spells L rows text v → walk (inRows rows text) L 0 ≡ ok v (length (leaves L v))
+  walked v s =
+      complete (inRows rows text) Sized (Begins rows text) (rows-complete rows text) L v (s .sized)
+      (record { gives = spells-given v s; ends = omega arith })
+
+  pub walk-sound : (v : Value L) (end : ℕ) → walk (inRows rows text) L 0 ≡ ok v end → Meets Sized L v × Begins rows text 0 (leaves L v) end
+  walk-sound v end e = all-ok (sound (inRows rows text) Sized (Begins rows text) (rows-sound rows text) L 0) e
+
+  pub spelled-complete : (v : Value L) → Spells L rows text v → spelled L rows text ≡ ok v (length (leaves L v))
+  unfolding spelled
+  spelled-complete v s = rw (walked v s, eq-eqb (rowWidth * length (leaves L v)) (length rows) (sym (s .whole)))
+
+  pub spelled-sound : All (λ v end. Spells L rows text v) (spelled L rows text)
+  unfolding spelled
+  spelled-sound =
+      all-fourteen _
+      (all-bind (walk (inRows rows text) L 0) _ (all-when _ walk-sound) λ v end p.
+      all-need (eqb (rowWidth * end) (length rows)) 14 0 _ λ e.
+      let w : end ≡ length (leaves L v) = p .1 .ends ∙ omega arith in
+      given (record { sized = p .0; whole = sym (eqb-true _ _ e) ∙ ap (λ (n : ℕ). rowWidth * n) w; give = along-map (There rows text) (RowGives rows text) 0 (leaves L v) (λ k x a b g. g .1) (p .1 .gives) }))
+
+  pub spelled-refused : (n p : ℕ) → spelled L rows text ≡ refuse n p → (n ≡ 14) × (p ≡ 0)
+  unfolding spelled
+  spelled-refused n p e = go (walk (inRows rows text) L 0 >>= λ v end. need (eqb (rowWidth * end) (length rows)) 14 0 (ok v end)) e
+    where
+      go : (m : Outcome ℕ (Value L)) → fourteen m ≡ refuse n p → (n ≡ 14) × (p ≡ 0)
+      go (ok v end) e = let z : _≡_ {A = ℕ} 0 1 = cc in absurd (omega arith)
+      go (refuse a b) e = (cc, cc)
+
+module _ (rows text : List ℕ) where
+  good-text : (i : ℕ) → sortAt rows i ≡ 6 → goodAt rows text i ≡ true → GoodText rows text i
+  unfolding utf8
+  good-text i s e =
+      let (a, b) = and-eq-true-iff _ _ .0 (rw (eq-eqb (sortAt rows i) 6 s) at e) in
+      (leb-true _ _ a, utf8-exact _ .0 b)
+
+  text-good : (i : ℕ) → (sortAt rows i ≡ 6 → GoodText rows text i) → goodAt rows text i ≡ true
+  unfolding utf8
+  text-good i h = go (eqb (sortAt rows i) 6) refl
+    where
+      go : (b : Bool) → eqb (sortAt rows i) 6 ≡ b → cond b (staysAt rows text i && utf8 (lentAt rows text i)) true ≡ true
+      go true e = let (a, b) = h (eqb-true _ _ e) in rw (le-leb _ _ a, utf8-exact _ .1 b)
+      go false e = refl
+
+  pub good-sound : (n : ℕ) → goodRows rows text n ≡ true → (i : ℕ) → i < n → goodAt rows text i ≡ true
+  good-sound zero e i h = absurd (omega arith)
+  good-sound (suc n) e i h = let (a, b) = and-eq-true-iff _ _ .0 e in go (eqb i n) refl b (λ k. good-sound n a i k)
+    where
+      go : (b : Bool) → eqb i n ≡ b → goodAt rows text n ≡ true → (i < n → goodAt rows text i ≡ true) → goodAt rows text i ≡ true
+      go true q k l = rw (eqb-true i n q) k
+      go false q k l = l (let z = eqb-false i n q in omega arith)
+
+  good-complete : (n : ℕ) → ((i : ℕ) → i < n → goodAt rows text i ≡ true) → goodRows rows text n ≡ true
+  good-complete zero h = refl
+  good-complete (suc n) h = rw (good-complete n (λ i k. h i (omega arith)), h n (omega arith))
+
+  pub goods : goodRows rows text (wholeRows rows) ≡ true → GoodTexts rows text
+  goods e i h s = good-text i s (good-sound (wholeRows rows) e i h)
+
+  pub all-good : GoodTexts rows text → goodRows rows text (wholeRows rows) ≡ true
+  all-good g = good-complete (wholeRows rows) (λ i h. text-good i (g i h))
+
+  -- A row that is not good, where not all are
+  bad-row : (n : ℕ) → goodRows rows text n ≡ false → (i : ℕ) × (i < n) × (goodAt rows text i ≡ false)
+  bad-row zero e = let z : _≡_ {A = ℕ} 1 0 = ap (λ (b : Bool). cond b 1 0) e in absurd (omega arith)
+  bad-row (suc n) e = go (goodRows rows text n) refl e (bad-row n)
+    where
+      go : (b : Bool) → goodRows rows text n ≡ b → (b && goodAt rows text n) ≡ false → (goodRows rows text n ≡ false → (i : ℕ) × (i < n) × (goodAt rows text i ≡ false))
+          → (i : ℕ) × (i < suc n) × (goodAt rows text i ≡ false)
+      go true q z l = (n, omega arith, z)
+      go false q z l = let (i, h, k) = l q in (i, omega arith, k)
+
+  not-good : (i : ℕ) → goodAt rows text i ≡ false → (sortAt rows i ≡ 6) × (GoodText rows text i → ⊥)
+  not-good i e = (go (eqb (sortAt rows i) 6) refl, λ g. both (text-good i (λ s. g)))
+    where
+      both : goodAt rows text i ≡ true → ⊥
+      both q = let z : _≡_ {A = Bool} true false = sym q ∙ e in let w : _≡_ {A = ℕ} 1 0 = ap (λ (b : Bool). cond b 1 0) z in omega arith
+
+      go : (b : Bool) → eqb (sortAt rows i) 6 ≡ b → sortAt rows i ≡ 6
+      go true q = eqb-true _ _ q
+      go false q = absurd (both (rw q))
+
+  pub not-all-good : goodRows rows text (wholeRows rows) ≡ false → (i : ℕ) × (i < wholeRows rows) × (sortAt rows i ≡ 6) × (GoodText rows text i → ⊥)
+  not-all-good e = let (i, h, k) = bad-row (wholeRows rows) e in let (s, g) = not-good i k in (i, h, s, g)
+
+-- Leaves that are sized, whose texts are good and not too long, fit
+fitting : (rows text : List ℕ) → GoodTexts rows text → (i : ℕ) (ls : List Leaf) → Given rows text i ls → Each Sized ls → length (bytesOf ls) ≤ limit → Each Fits ls
+fitting rows text g i [] h z l = tt
+fitting rows text g i (plain srt n ∷ ls) h z l =
+    (z .0, fitting rows text g (i + 1) ls (h .1) (z .1) (omega (arith, length-append (leafBytes (plain srt n)) (bytesOf ls))))
+fitting rows text g i (string t ∷ ls) h z l =
+    let ((there, (s, e)), others) = h in
+    let (a, b) = g i there s in
+    let k = length-append (leafBytes (string t)) (bytesOf ls) in
+    ((subst Utf8 e b, omega (arith, k)), fitting rows text g (i + 1) ls others (z .1) (omega (arith, k)))
+
+pub spells-proper : Spells-proper
+spells-proper L rows text v s g l =
+    meets-each Sized Fits L v (s .sized) (fitting rows text g 0 (leaves L v) (spells-given L rows text v s) (each-of Sized L v (s .sized)) l)
+
+pub spells-unique : Spells-unique
+spells-unique L rows text v w s t = let a = spelled-complete L rows text v s in let b = spelled-complete L rows text w t in cc
+
+module _ (L : Layout) (rows text : List ℕ) (size : ℕ) where
+  -- What a writing comes to
+  data Judged : Outcome ℕ (List ℕ) → Type 0 where
+    writes : {b : List ℕ} {n : ℕ} → (v : Value L) × Spells L rows text v × GoodTexts rows text × (b ≡ bytes L v) × (n ≡ length b) × (n ≤ limit) × (n ≤ size) → Judged (ok b n)
+    refuses : {n p : ℕ} → Refusal L rows text size n × (p ≡ 0) → Judged (refuse n p)
+
+  wrote : {b : List ℕ} {n : ℕ} → Judged (ok b n) → (v : Value L) × Spells L rows text v × GoodTexts rows text × (b ≡ bytes L v) × (n ≡ length b) × (n ≤ limit) × (n ≤ size)
+  wrote (writes h) = h
+
+  refusing : {n p : ℕ} → Judged (refuse n p) → Refusal L rows text size n × (p ≡ 0)
+  refusing (refuses h) = h
+
+  sized : (v : Value L) → Spells L rows text v → GoodTexts rows text → (a b : Bool) → leb (length (bytes L v)) limit ≡ a → leb (length (bytes L v)) size ≡ b
+      → Judged (need a 16 0 (ok (bytes L v) (length (bytes L v))) >>= λ x n. need (leb n size) 17 0 (ok x n))
+  sized v s g true true e f = rw f (writes (v, s, g, refl, refl, leb-true _ _ e, leb-true _ _ f))
+  sized v s g true false e f = rw f (refuses (no-space v s g (leb-true _ _ e) (leb-false _ _ f), refl))
+  sized v s g false b e f = refuses (too-long v s g (leb-false _ _ e), refl)
+
+  texted : (v : Value L) → Spells L rows text v → (a : Bool) → goodRows rows text (wholeRows rows) ≡ a
+      → Judged (need a 15 0 (need (leb (length (bytes L v)) limit) 16 0 (ok (bytes L v) (length (bytes L v)))) >>= λ x n. need (leb n size) 17 0 (ok x n))
+  texted v s true e = sized v s (goods rows text e) (leb (length (bytes L v)) limit) (leb (length (bytes L v)) size) refl refl
+  texted v s false e = let (i, h, k, g) = not-all-good rows text e in refuses (bad-text v i s h k g, refl)
+
+  judged : Judged (write L rows text size)
+  unfolding write measured
+  judged = go (spelled L rows text) refl (spelled-sound L rows text)
+    where
+      go : (m : Outcome ℕ (Value L)) → spelled L rows text ≡ m → All (λ v end. Spells L rows text v) m
+          → Judged ((m >>= λ v end. need (goodRows rows text (wholeRows rows)) 15 0 (need (leb (length (bytes L v)) limit) 16 0 (ok (bytes L v) (length (bytes L v))))) >>= λ x n. need (leb n size) 17 0 (ok x n))
+      go (ok v end) e h = texted v (all-ok h refl) (goodRows rows text (wholeRows rows)) refl
+      go (refuse n p) e h =
+          let (a, b) = spelled-refused L rows text n p e in
+          rw (a, b) (refuses (not-spelled (λ v s. let q = spelled-complete L rows text v s in let z : _≡_ {A = ℕ} 0 1 = cc in omega arith), refl))
+
+  spelled-write : (v : Value L) → Spells L rows text v
+      → write L rows text size
+      ≡ (need (goodRows rows text (wholeRows rows)) 15 0 (need (leb (length (bytes L v)) limit) 16 0 (ok (bytes L v) (length (bytes L v)))) >>= λ x n. need (leb n size) 17 0 (ok x n))
+  unfolding write measured
+  spelled-write v s = rw (spelled-complete L rows text v s)
+
+  refusal-write : (n : ℕ) → Refusal L rows text size n → write L rows text size ≡ refuse n 0
+  unfolding write measured
+  refusal-write n (not-spelled h) = go (spelled L rows text) refl (spelled-sound L rows text)
+    where
+      go : (m : Outcome ℕ (Value L)) → spelled L rows text ≡ m → All (λ v end. Spells L rows text v) m
+          → ((m >>= λ v end. need (goodRows rows text (wholeRows rows)) 15 0 (need (leb (length (bytes L v)) limit) 16 0 (ok (bytes L v) (length (bytes L v))))) >>= λ x n. need (leb n size) 17 0 (ok x n)) ≡ refuse 14 0
+      go (ok v end) e k = absurd (h v (all-ok k refl))
+      go (refuse a b) e k = let (x, y) = spelled-refused L rows text a b e in rw (x, y)
+  refusal-write n (bad-text v i s h k g) = spelled-write v s ∙ go (goodRows rows text (wholeRows rows)) refl
+    where
+      go : (a : Bool) → goodRows rows text (wholeRows rows) ≡ a
+          → (need a 15 0 (need (leb (length (bytes L v)) limit) 16 0 (ok (bytes L v) (length (bytes L v)))) >>= λ x n. need (leb n size) 17 0 (ok x n)) ≡ refuse 15 0
+      go true e = absurd (g (goods rows text e i h k))
+      go false e = refl
+  refusal-write n (too-long v s g l) = spelled-write v s ∙ rw (all-good rows text g, lt-leb _ _ l)
+  refusal-write n (no-space v s g l k) = spelled-write v s ∙ rw (all-good rows text g, le-leb _ _ l, lt-leb _ _ k)
+
+pub write-exact : Write-exact
+write-exact L rows text size b n = (
+  λ e. wrote L rows text size (subst (Judged L rows text size) e (judged L rows text size)),
+  λ h. let (v, s, g, x, y, l, k) = h in
+      let e : n ≡ length (bytes L v) = y ∙ ap length x in
+      spelled-write L rows text size v s ∙ rw (all-good rows text g, x, e, le-leb (length (bytes L v)) limit (omega arith), le-leb (length (bytes L v)) size (omega arith)),
+)
+
+pub write-refused : Write-refused
+write-refused L rows text size n p = (
+  λ e. refusing L rows text size (subst (Judged L rows text size) e (judged L rows text size)),
+  λ h. rw (h .1) (refusal-write L rows text size n (h .0)),
+)

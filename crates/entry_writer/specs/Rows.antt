@@ -1,0 +1,46 @@
+-- The rows that a writer is given, with the text bytes that are lent beside them, as what leaves are read from.
+use Prim.Native.Nat.{ℕ, zero, suc, _+_}
+use mathlib.Core.Bool.{Bool, true, cond, _&&_}
+use mathlib.Core.List.{List}
+use lib.Dec.{eqb, ltb, leb}
+use lib.ListN.{length, take, drop}
+use Rattle.layout.specs.Layout.{Sort, bound}
+use Rattle.layout.specs.Written.{sortNumber, sortAt, offsetAt, valueAt}
+use Rattle.layout.specs.Reading.{Outcome, ok, need, Source, utf8}
+use Rattle.layout.specs.Answers.{wholeRows}
+
+-- There is a row, and it is of a sort
+abbrev pub isRow : (rows : List ℕ) → (row sort : ℕ) → Bool
+isRow rows i sort = ltb i (wholeRows rows) && eqb (sortAt rows i) sort
+
+-- A leaf that holds a number, from a row of its sort with a value that fits
+abbrev pub plainIn : (rows : List ℕ) → Sort → (row : ℕ) → Outcome ℕ ℕ
+plainIn rows srt i =
+    need (isRow rows i (sortNumber srt)) 14 0
+    (need (ltb (valueAt rows i) (bound srt)) 14 0
+    (ok (valueAt rows i) (i + 1)))
+
+-- The text bytes that a row gives: so many as its value says, from its offset on
+abbrev pub lentAt : (rows text : List ℕ) → (row : ℕ) → List ℕ
+lentAt rows text i = take (valueAt rows i) (drop (offsetAt rows i) text)
+
+-- A text, from a row of sort 6
+abbrev pub textIn : (rows text : List ℕ) → (row : ℕ) → Outcome ℕ (List ℕ)
+textIn rows text i = need (isRow rows i 6) 14 0 (ok (lentAt rows text i) (i + 1))
+
+-- Rows as a source: its states are the numbers of the rows taken. No other row's offset is read than a text's
+abbrev pub inRows : (rows text : List ℕ) → Source
+inRows rows text = record { State = ℕ; takePlain = plainIn rows; takeText = textIn rows text; place = λ i. 0 }
+
+-- A text row stays within the lent bytes
+abbrev pub staysAt : (rows text : List ℕ) → (row : ℕ) → Bool
+staysAt rows text i = leb (offsetAt rows i + valueAt rows i) (length text)
+
+-- 15: a text row stays within the lent bytes, and its bytes are RFC 3629. Other rows are not asked
+abbrev pub goodAt : (rows text : List ℕ) → (row : ℕ) → Bool
+goodAt rows text i = cond (eqb (sortAt rows i) 6) (staysAt rows text i && utf8 (lentAt rows text i)) true
+
+-- So are the first n rows
+abbrev pub goodRows : (rows text : List ℕ) → (n : ℕ) → Bool
+goodRows rows text zero = true
+goodRows rows text (suc n) = goodRows rows text n && goodAt rows text n

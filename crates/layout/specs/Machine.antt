@@ -1,0 +1,39 @@
+-- What goes through a layout one leaf after the other, with a state that it hands on: a reading's cursor with its table, a
+-- writer with its destination.
+use Prim.Native.Nat.{ℕ}
+use mathlib.Core.List.{List}
+use Rattle.layout.specs.Layout.{Sort, Leaf, Fault, Verdict, fine, wrong, Layout, nothing, one, text, _then_, case, check}
+use Rattle.layout.specs.Reading.{Outcome, ok, refuse}
+
+-- A step for each sort of leaf, and what the branches and the judges of a layout need
+pub record Machine (T : Type 0) : Type 0 where
+  pub plainStep : Sort → T → T
+  pub textStep : T → T
+  -- the value of the leaf that was last
+  pub value : T → ℕ
+  -- a state that is refused, since what began at another state is wrong
+  pub halt : Fault → (begin state : T) → T
+  -- what a judge says of the leaves of a layout that begin at a state
+  pub verdict : Layout → (judge : List Leaf → Verdict) → T → Verdict
+
+-- The verdict on leaves, if they were not refused
+abbrev pub verdictOn : {S : Type 0} → (List Leaf → Verdict) → Outcome S (List Leaf) → Verdict
+verdictOn judge (ok ls end) = judge ls
+verdictOn judge (refuse n p) = fine
+
+module _ {T : Type 0} (M : Machine T) where
+  -- A verdict passed on what began at a state
+  abbrev pub pass : Verdict → (begin state : T) → T
+  pass fine begin st = st
+  pass (wrong f) begin st = M .halt f begin st
+
+  -- A layout, from a state on
+  unfoldable pub drive : Layout → T → T
+  drive nothing st = st
+  drive (one srt) st = M .plainStep srt st
+  drive text st = M .textStep st
+  drive (A then B) st = drive B (drive A st)
+  drive (case srt A j B) st =
+      let n = M .value (M .plainStep srt st) in
+      drive (B n) (pass (j n) st (drive A (M .plainStep srt st)))
+  drive (check A j) st = pass (M .verdict A j st) st (drive A st)

@@ -1,0 +1,211 @@
+// The writer of the metadata of a type, from rows: how it maps to SQL as an argument and as a result.
+use entry_writer::EntryWriter;
+use length::Length;
+ghost use mathlib.Core.Path.{_≡_};
+ghost use lib.ListN.{length};
+ghost use Rattle.layout.specs.Entities.{SqlMapping, SqlArrayMapping, Numeric, Returns, SqlMappingList, ArgumentSql, ReturnSql};
+ghost use Rattle.layout.specs.Entities.{ArgumentError, ReturnsError, FunctionMetadataType, OptionResolution, Resolution, TypeOrigin};
+ghost use Rattle.length.specs.Length.{lengthOf};
+ghost use Rattle.entry_writer.specs.Writing.{measured, write, lengthIn, written};
+ghost use Rattle.entry_writer.specs.State.{state};
+ghost use Rattle.entry_writer.specs.Run.{run};
+
+pub fn type_origin(w: EntryWriter, rows: &[u32], text: &[u8], dest: &mut [u8]) -> EntryWriter
+    ensures { λ r. ⌜ state r (now (dest .exit)) ≡ run TypeOrigin (now (rows .entry)) (now (text .entry)) (state w (now (dest .entry))) ⌝ }
+{
+    let w = w.u8(rows, text, dest);
+    let tag = w.value;
+    match tag {
+        layout::TYPE_ORIGIN_THIS_EXTENSION..=layout::TYPE_ORIGIN_EXTERNAL => w,
+        _ => w.refused(),
+    }
+}
+
+pub fn sql_mapping(w: EntryWriter, rows: &[u32], text: &[u8], dest: &mut [u8]) -> EntryWriter
+    ensures { λ r. ⌜ state r (now (dest .exit)) ≡ run SqlMapping (now (rows .entry)) (now (text .entry)) (state w (now (dest .entry))) ⌝ }
+{
+    let w = w.u8(rows, text, dest);
+    let tag = w.value;
+    match tag {
+        layout::SQL_MAPPING_AS => w.str(rows, text, dest),
+        layout::SQL_MAPPING_ARRAY => sql_array_mapping(w, rows, text, dest),
+        layout::SQL_MAPPING_NUMERIC => numeric(w, rows, text, dest),
+        layout::SQL_MAPPING_COMPOSITE => w,
+        layout::SQL_MAPPING_SKIP => w,
+        _ => w.refused(),
+    }
+}
+
+pub fn sql_array_mapping(w: EntryWriter, rows: &[u32], text: &[u8], dest: &mut [u8]) -> EntryWriter
+    ensures { λ r. ⌜ state r (now (dest .exit)) ≡ run SqlArrayMapping (now (rows .entry)) (now (text .entry)) (state w (now (dest .entry))) ⌝ }
+{
+    let w = w.u8(rows, text, dest);
+    let tag = w.value;
+    match tag {
+        layout::SQL_MAPPING_AS => w.str(rows, text, dest),
+        layout::SQL_MAPPING_NUMERIC => numeric(w, rows, text, dest),
+        layout::SQL_MAPPING_COMPOSITE => w,
+        _ => w.refused(), // Array and Skip too
+    }
+}
+
+// A Numeric mapping: each number is written also where its flag is 0.
+pub fn numeric(w: EntryWriter, rows: &[u32], text: &[u8], dest: &mut [u8]) -> EntryWriter
+    ensures { λ r. ⌜ state r (now (dest .exit)) ≡ run Numeric (now (rows .entry)) (now (text .entry)) (state w (now (dest .entry))) ⌝ }
+{
+    let w = w.bool(rows, text, dest); // has_precision
+    let w = w.u32(rows, text, dest); // precision
+    let w = w.bool(rows, text, dest); // has_scale
+    w.u32(rows, text, dest) // scale
+}
+
+pub fn returns(w: EntryWriter, rows: &[u32], text: &[u8], dest: &mut [u8]) -> EntryWriter
+    ensures { λ r. ⌜ state r (now (dest .exit)) ≡ run Returns (now (rows .entry)) (now (text .entry)) (state w (now (dest .entry))) ⌝ }
+{
+    let w = w.u8(rows, text, dest);
+    let tag = w.value;
+    match tag {
+        layout::RETURNS_ONE => sql_mapping(w, rows, text, dest),
+        layout::RETURNS_SET_OF => sql_mapping(w, rows, text, dest),
+        layout::RETURNS_TABLE => sql_mapping_list(w, rows, text, dest),
+        _ => w.refused(),
+    }
+}
+
+pub fn sql_mapping_list(w: EntryWriter, rows: &[u32], text: &[u8], dest: &mut [u8]) -> EntryWriter
+    ensures { λ r. ⌜ state r (now (dest .exit)) ≡ run SqlMappingList (now (rows .entry)) (now (text .entry)) (state w (now (dest .entry))) ⌝ }
+{
+    let mut w = w.count(rows, text, dest);
+    let count = w.value;
+    let mut i: usize = 0;
+    while i < count {
+        if w.refusal != 0 {
+            return w;
+        }
+        w = sql_mapping(w, rows, text, dest);
+        i += 1;
+    }
+    w
+}
+
+pub fn argument_error(w: EntryWriter, rows: &[u32], text: &[u8], dest: &mut [u8]) -> EntryWriter
+    ensures { λ r. ⌜ state r (now (dest .exit)) ≡ run ArgumentError (now (rows .entry)) (now (text .entry)) (state w (now (dest .entry))) ⌝ }
+{
+    let w = w.u8(rows, text, dest);
+    let tag = w.value;
+    match tag {
+        layout::ARG_ERROR_SET_OF..=layout::ARG_ERROR_DATUM => w,
+        layout::ARG_ERROR_NOT_VALID => w.str(rows, text, dest),
+        _ => w.refused(),
+    }
+}
+
+pub fn argument_sql(w: EntryWriter, rows: &[u32], text: &[u8], dest: &mut [u8]) -> EntryWriter
+    ensures { λ r. ⌜ state r (now (dest .exit)) ≡ run ArgumentSql (now (rows .entry)) (now (text .entry)) (state w (now (dest .entry))) ⌝ }
+{
+    let w = w.u8(rows, text, dest);
+    let tag = w.value;
+    match tag {
+        layout::RESULT_OK => sql_mapping(w, rows, text, dest),
+        layout::RESULT_ERR => argument_error(w, rows, text, dest),
+        _ => w.refused(),
+    }
+}
+
+pub fn returns_error(w: EntryWriter, rows: &[u32], text: &[u8], dest: &mut [u8]) -> EntryWriter
+    ensures { λ r. ⌜ state r (now (dest .exit)) ≡ run ReturnsError (now (rows .entry)) (now (text .entry)) (state w (now (dest .entry))) ⌝ }
+{
+    let w = w.u8(rows, text, dest);
+    let tag = w.value;
+    match tag {
+        layout::RETURNS_ERROR_NESTED_SET_OF..=layout::RETURNS_ERROR_DATUM => w,
+        _ => w.refused(),
+    }
+}
+
+pub fn return_sql(w: EntryWriter, rows: &[u32], text: &[u8], dest: &mut [u8]) -> EntryWriter
+    ensures { λ r. ⌜ state r (now (dest .exit)) ≡ run ReturnSql (now (rows .entry)) (now (text .entry)) (state w (now (dest .entry))) ⌝ }
+{
+    let w = w.u8(rows, text, dest);
+    let tag = w.value;
+    match tag {
+        layout::RESULT_OK => returns(w, rows, text, dest),
+        layout::RESULT_ERR => returns_error(w, rows, text, dest),
+        _ => w.refused(),
+    }
+}
+
+// The metadata record.
+pub fn function_metadata_type(
+    w: EntryWriter,
+    rows: &[u32],
+    text: &[u8],
+    dest: &mut [u8],
+) -> EntryWriter
+    ensures { λ r. ⌜ state r (now (dest .exit)) ≡ run FunctionMetadataType (now (rows .entry)) (now (text .entry)) (state w (now (dest .entry))) ⌝ }
+{
+    let w = option_resolution(w, rows, text, dest); // resolution
+    let w = argument_sql(w, rows, text, dest); // argument_sql
+    return_sql(w, rows, text, dest) // return_sql
+}
+
+pub fn option_resolution(w: EntryWriter, rows: &[u32], text: &[u8], dest: &mut [u8]) -> EntryWriter
+    ensures { λ r. ⌜ state r (now (dest .exit)) ≡ run OptionResolution (now (rows .entry)) (now (text .entry)) (state w (now (dest .entry))) ⌝ }
+{
+    let w = w.bool(rows, text, dest);
+    if w.value != 0 {
+        return resolution(w, rows, text, dest);
+    }
+    w
+}
+
+pub fn resolution(w: EntryWriter, rows: &[u32], text: &[u8], dest: &mut [u8]) -> EntryWriter
+    ensures { λ r. ⌜ state r (now (dest .exit)) ≡ run Resolution (now (rows .entry)) (now (text .entry)) (state w (now (dest .entry))) ⌝ }
+{
+    let w = w.str(rows, text, dest); // type_ident
+    type_origin(w, rows, text, dest) // type_origin
+}
+
+// The length of a mapping's bytes, or a refusal of 14 to 16.
+pub fn sql_mapping_len(rows: &[u32], text: &[u8]) -> Length
+    ensures { λ r. ⌜ lengthOf r ≡ lengthIn (measured SqlMapping (now (rows .entry)) (now (text .entry))) ⌝ }
+{
+    let mut none = [0u8; 0];
+    let w = sql_mapping(EntryWriter::new(), rows, text, &mut none);
+    w.finish(rows)
+}
+
+// The length of a metadata record's bytes, or a refusal of 14 to 16.
+pub fn function_metadata_type_len(rows: &[u32], text: &[u8]) -> Length
+    ensures { λ r. ⌜ lengthOf r ≡ lengthIn (measured FunctionMetadataType (now (rows .entry)) (now (text .entry))) ⌝ }
+{
+    let mut none = [0u8; 0];
+    let w = function_metadata_type(EntryWriter::new(), rows, text, &mut none);
+    w.finish(rows)
+}
+
+// Writes a mapping to the start of dest, and answers its length; or a refusal of 14 to 17, and dest is unchanged.
+pub fn encode_sql_mapping(rows: &[u32], text: &[u8], dest: &mut [u8]) -> Length
+    ensures { λ r. ⌜ lengthOf r ≡ lengthIn (write SqlMapping (now (rows .entry)) (now (text .entry)) (length (now (dest .entry)))) ⌝ }
+    ensures { λ r. ⌜ now (dest .exit) ≡ written (write SqlMapping (now (rows .entry)) (now (text .entry)) (length (now (dest .entry)))) (now (dest .entry)) ⌝ }
+{
+    let length = entry_writer::fitting(sql_mapping_len(rows, text), dest.len());
+    let Length::Bytes { count: _ } = length else {
+        return length;
+    };
+    sql_mapping(EntryWriter::of_checked(), rows, text, dest);
+    length
+}
+
+// Writes a metadata record to the start of dest, and answers its length; or a refusal of 14 to 17, and dest is unchanged.
+pub fn encode_function_metadata_type(rows: &[u32], text: &[u8], dest: &mut [u8]) -> Length
+    ensures { λ r. ⌜ lengthOf r ≡ lengthIn (write FunctionMetadataType (now (rows .entry)) (now (text .entry)) (length (now (dest .entry)))) ⌝ }
+    ensures { λ r. ⌜ now (dest .exit) ≡ written (write FunctionMetadataType (now (rows .entry)) (now (text .entry)) (length (now (dest .entry)))) (now (dest .entry)) ⌝ }
+{
+    let length = entry_writer::fitting(function_metadata_type_len(rows, text), dest.len());
+    let Length::Bytes { count: _ } = length else {
+        return length;
+    };
+    function_metadata_type(EntryWriter::of_checked(), rows, text, dest);
+    length
+}

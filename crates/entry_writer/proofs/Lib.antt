@@ -2,6 +2,7 @@ pub mod Along
 pub mod Still
 pub mod Steps
 pub mod Spelled
+pub mod Offsets
 pub mod Measured
 pub mod Stored
 pub mod RoundTrips

@@ -8,7 +8,7 @@ use mathlib.Core.Path.{_≡_, refl, sym, ap, subst, _∙_}
 use lib.Dec.{eqb, ltb, leb}
 use lib.ListN.{length, length-append}
 use borrow.Author.Tests.{eqb-true, eq-eqb, ne-eqb, leb-false, lt-leb}
-use Rattle.layout.specs.Layout.{Sort, Kind, Tag, Flag, Number, Count, Leaf, plain, string, Layout, Value, leaves, bound}
+use Rattle.layout.specs.Layout.{Sort, Leaf, plain, string, Layout, Value, leaves, bound}
 use Rattle.layout.specs.Written.{plainBytes, leafBytes, bytesOf, bytes, rowWidth, sortNumber, sortAt, valueAt}
 use Rattle.layout.specs.Reading.{Outcome, ok, refuse, _>>=_, need, walk, leavesAt, utf8}
 use Rattle.layout.specs.Answers.{wholeRows}
@@ -22,7 +22,7 @@ use Rattle.entry_writer.specs.State.{State, state, start, stopped, refus
 use Rattle.entry_writer.specs.declared.EntryWriter.{EntryWriter}
 use Rattle.entry_writer.specs.Run.{writer, run, finished}
 use Rattle.entry_writer.proofs.Still.{writer-still}
-use Rattle.entry_writer.proofs.Spelled.{Given, given-there, whole-rows, walk-sound, good-sound}
+use Rattle.entry_writer.proofs.Spelled.{plain-not-text, Given, given-there, whole-rows, walk-sound, good-sound}
 
 module _ (rows text : List ℕ) where
   -- A text is taken for good
@@ -135,14 +135,7 @@ module _ (rows text : List ℕ) where
 
   -- A row of another sort is not asked
   plain-good : (srt : Sort) (i : ℕ) → sortAt rows i ≡ sortNumber srt → goodAt rows text i ≡ true
-  plain-good srt i e = rw (e, ne-eqb (sortNumber srt) 6 (go srt))
-    where
-      go : (x : Sort) → sortNumber x ≡ 6 → ⊥
-      go Kind z = omega arith
-      go Tag z = omega arith
-      go Flag z = omega arith
-      go Number z = omega arith
-      go Count z = omega arith
+  plain-good srt i e = rw (e, ne-eqb (sortNumber srt) 6 (plain-not-text srt))
 
   pub refusal-all : (ls : List Leaf) (st : State) → pushAll (push rows text) ls st .writer .refusal ≡ st .writer .refusal
   refusal-all [] st = refl

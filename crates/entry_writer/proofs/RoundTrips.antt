@@ -7,7 +7,7 @@ use lib.ListN.{length, getD, take, drop, replicate, length-append, length-drop}
 use lib.Seq.{length-take-le, take-append-seam, getD-append-add}
 use borrow.Author.Tests.{le-leb}
 use Rattle.text.specs.Rfc3629.{Utf8}
-use Rattle.layout.specs.Layout.{Sort, Kind, Tag, Flag, Number, Count, Leaf, plain, string, Layout, Value, leaves, Fits}
+use Rattle.layout.specs.Layout.{Leaf, plain, string, Layout, Value, leaves, Fits}
 use Rattle.layout.specs.Written.{four, leafBytes, bytesOf, bytes, rowWidth, sortNumber, rowAt, rowsFrom, sortAt, offsetAt, valueAt}
 use Rattle.layout.specs.Reading.{ok}
 use Rattle.layout.specs.Answers.{Accepts, accepted, Result, wholeRows, acceptance}
@@ -22,7 +22,7 @@ use Rattle.entry_writer.specs.Writing.{write}
 use Rattle.entry_writer.specs.Refusals.{RowGives, Along, Sized, Spells, GoodText, GoodTexts}
 use Rattle.entry_writer.specs.Theorems.{Returns, Read-written, Write-read}
 use Rattle.entry_writer.proofs.Along.{along-at, along-map, along-both, along-also}
-use Rattle.entry_writer.proofs.Spelled.{whole-rows, spells-proper, write-exact}
+use Rattle.entry_writer.proofs.Spelled.{plain-not-text, whole-rows, spells-proper, write-exact}
 
 -- A row gives a leaf, of a text all its bytes
 abbrev Holds : (rows text : List ℕ) → (row : ℕ) → Leaf → Type 0
@@ -84,13 +84,6 @@ good-holds rows text i (string t) h g =
 holds-gives : (rows text : List ℕ) (i : ℕ) (x : Leaf) → Holds rows text i x → RowGives rows text i x
 holds-gives rows text i (plain srt n) h = h
 holds-gives rows text i (string t) h = (h .0, h .2)
-
-plain-not-text : (srt : Sort) → sortNumber srt ≡ 6 → ⊥
-plain-not-text Kind z = omega arith
-plain-not-text Tag z = omega arith
-plain-not-text Flag z = omega arith
-plain-not-text Number z = omega arith
-plain-not-text Count z = omega arith
 
 -- A row that holds a leaf which fits is good
 holds-good : (rows text : List ℕ) (i : ℕ) (x : Leaf) → Holds rows text i x × Fits x → sortAt rows i ≡ 6 → GoodText rows text i

@@ -9,7 +9,7 @@ use lib.ListN.{length, length-append}
 use borrow.Author.Tests.{eqb-true, eqb-false, eq-eqb, ltb-true, lt-ltb, leb-true, leb-false, le-leb, lt-leb}
 use Rattle.text.specs.Rfc3629.{Utf8}
 use Rattle.text.proofs.Exact.{utf8-exact}
-use Rattle.layout.specs.Layout.{Leaf, plain, string, Layout, Value, leaves, Meets, bound, Fits}
+use Rattle.layout.specs.Layout.{Sort, Kind, Tag, Flag, Number, Count, Leaf, plain, string, Layout, Value, leaves, Meets, bound, Fits}
 use Rattle.layout.specs.Written.{leafBytes, bytesOf, bytes, rowWidth, sortNumber, sortAt}
 use Rattle.layout.specs.Reading.{Outcome, ok, refuse, _>>=_, need, walk, utf8}
 use Rattle.layout.specs.Answers.{wholeRows}
@@ -21,6 +21,14 @@ use Rattle.entry_writer.specs.Writing.{fourteen, spelled, measured, writ
 use Rattle.entry_writer.specs.Refusals.{RowGives, Along, Sized, Spells, GoodText, GoodTexts, Refusal, not-spelled, bad-text, too-long, no-space}
 use Rattle.entry_writer.proofs.Along.{along-join, along-part, along-at, along-map}
 use Rattle.entry_writer.specs.Theorems.{Write-exact, Spells-proper, Spells-unique, Write-refused}
+
+-- No number's sort is a text's
+pub plain-not-text : (srt : Sort) → sortNumber srt ≡ 6 → ⊥
+plain-not-text Kind z = omega arith
+plain-not-text Tag z = omega arith
+plain-not-text Flag z = omega arith
+plain-not-text Number z = omega arith
+plain-not-text Count z = omega arith
 
 module _ (rows text : List ℕ) where
   -- A row is there and gives a leaf

@@ -5,7 +5,7 @@ use mathlib.Core.Logic.{_↔_}
 use mathlib.Core.Path.{_≡_}
 use lib.ListN.{length, getD, take}
 use Rattle.layout.specs.Layout.{Layout, Value, Proper}
-use Rattle.layout.specs.Written.{bytes, rowWidth, sortAt, valueAt}
+use Rattle.layout.specs.Written.{bytes, rowWidth, sortAt, offsetAt, valueAt}
 use Rattle.layout.specs.Reading.{ok, refuse}
 use Rattle.layout.specs.Answers.{accepted, Result, wholeRows}
 use Rattle.layout.specs.Alone.{limit, readingAlone}
@@ -35,6 +35,18 @@ Spells-unique = (L : Layout) (rows text : List ℕ) (v w : Value L) → Spells L
 abbrev pub Write-refused : Type 0
 Write-refused =
     (L : Layout) (rows text : List ℕ) (size n p : ℕ) → (write L rows text size ≡ refuse n p) ↔ (Refusal L rows text size n × (p ≡ 0))
+
+-- A row of another table is the same, but for the offset if it is no text row
+pub record SameRow (rows other : List ℕ) (i : ℕ) : Type 0 where
+  pub sorts : sortAt other i ≡ sortAt rows i
+  pub values : valueAt other i ≡ valueAt rows i
+  pub offsets : sortAt rows i ≡ 6 → offsetAt other i ≡ offsetAt rows i
+
+-- The offset of text rows only is read: `offset-free` in Offsets.antt
+abbrev pub Offset-free : Type 0
+Offset-free =
+    (L : Layout) (rows other text : List ℕ) (size : ℕ) → length other ≡ length rows → ((i : ℕ) → i < wholeRows rows → SameRow rows other i)
+    → write L other text size ≡ write L rows text size
 
 -- A reading of bytes that returns the rows from which they were written, but for offsets, and for each text row the same bytes
 pub record Returns (rows text b : List ℕ) (entities : ℕ) (r : Result) : Type 0 where

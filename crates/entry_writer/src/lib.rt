@@ -169,7 +169,7 @@ impl EntryWriter {
         w.past(value as usize)
     }
 
-    // A tag.
+    // This and the next four write the next row, from the rows and the text bytes that are lent. Here: a tag.
     pub fn u8(self, rows: &[u32], text: &[u8], dest: &mut [u8]) -> EntryWriter
         ensures { λ r. ⌜ state r (now (dest .exit)) ≡ run (one Tag) (now (rows .entry)) (now (text .entry)) (state self (now (dest .entry))) ⌝ }
     {

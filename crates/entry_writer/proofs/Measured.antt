@@ -18,10 +18,10 @@ use Rattle.length.specs.Length.{counted, refused}
 use Rattle.entry_writer.specs.Rows.{isRow, plainIn, lentAt, textIn, inRows, staysAt, goodAt, goodRows}
 use Rattle.entry_writer.specs.Writing.{fourteen, spelled, measured, lengthIn}
 use Rattle.entry_writer.specs.Refusals.{RowGives}
-use Rattle.entry_writer.specs.State.{State, state, start, stopped, refusedOnce, put, done, arrivePlain, putText, arriveText, guarded, plainStep, textStep}
+use Rattle.entry_writer.specs.State.{State, state, start, stopped, refusedOnce, put, done, arrivePlain, putText, arriveText, plainStep, textStep}
 use Rattle.entry_writer.specs.declared.EntryWriter.{EntryWriter}
 use Rattle.entry_writer.specs.Run.{writer, run, finished}
-use Rattle.entry_writer.proofs.Still.{writer-still}
+use Rattle.entry_writer.proofs.Still.{goes-on, writer-still}
 use Rattle.entry_writer.proofs.Spelled.{plain-not-text, Given, given-there, whole-rows, walk-sound, good-sound}
 
 module _ (rows text : List ℕ) where
@@ -54,10 +54,6 @@ module _ (rows text : List ℕ) where
   pub push-refusal : (x : Leaf) (st : State) → push x st .writer .refusal ≡ st .writer .refusal
   push-refusal (plain srt n) st = refl
   push-refusal (string t) st = text-refusal (passes t st) t st
-
-  goes-on : (out st : State) → st .writer .refusal ≡ 0 → guarded out st ≡ out
-  unfolding guarded
-  goes-on out st z = rw (eq-eqb (st .writer .refusal) 0 z)
 
   plain-follows : (srt : Sort) (st : State) → st .writer .refusal ≡ 0 → Follows gait st (plainStep srt rows st) (plainIn rows srt (st .writer .row) >>= λ n end. ok (plain srt n ∷ []) end)
   unfolding plainStep

@@ -22,6 +22,10 @@ use Rattle.entry_writer.specs.Refusals.{RowGives, Along, Sized, Spells, 
 use Rattle.entry_writer.proofs.Along.{along-join, along-part, along-at, along-map}
 use Rattle.entry_writer.specs.Theorems.{Write-exact, Spells-proper, Spells-unique, Write-refused}
 
+-- A row of a sort
+pub is-row : (rows : List ℕ) (i sort : ℕ) → isRow rows i sort ≡ true → (i < wholeRows rows) × (sortAt rows i ≡ sort)
+is-row rows i sort e = let (a, b) = and-eq-true-iff _ _ .0 e in (ltb-true _ _ a, eqb-true _ _ b)
+
 -- No number's sort is a text's
 pub plain-not-text : (srt : Sort) → sortNumber srt ≡ 6 → ⊥
 plain-not-text Kind z = omega arith
@@ -47,9 +51,6 @@ module _ (rows text : List ℕ) where
     pub gives : Given i ls
     pub ends : end ≡ i + length ls
 
-  row-there : (i sort : ℕ) → isRow rows i sort ≡ true → (i < wholeRows rows) × (sortAt rows i ≡ sort)
-  row-there i sort e = let (a, b) = and-eq-true-iff _ _ .0 e in (ltb-true _ _ a, eqb-true _ _ b)
-
   there-row : (i sort : ℕ) → i < wholeRows rows → sortAt rows i ≡ sort → isRow rows i sort ≡ true
   there-row i sort h e = rw (lt-ltb i (wholeRows rows) h, eq-eqb (sortAt rows i) sort e)
 
@@ -60,11 +61,11 @@ module _ (rows text : List ℕ) where
     plainly = λ srt i.
         all-need _ 14 0 _ λ e.
         all-need _ 14 0 _ λ f.
-        let (h, k) = row-there i (sortNumber srt) e in
+        let (h, k) = is-row rows i (sortNumber srt) e in
         given (ltb-true _ _ f, record { gives = ((h, (k, refl)), tt); ends = refl });
     textly = λ i.
         all-need _ 14 0 _ λ e.
-        let (h, k) = row-there i 6 e in
+        let (h, k) = is-row rows i 6 e in
         given (tt, record { gives = ((h, (k, refl)), tt); ends = refl });
   }
 

@@ -1,8 +1,8 @@
--- A refused writer stays as it is.
+-- A refused writer stays as it is, and another goes on.
 use Prim.Native.Nat.{ℕ}
 use mathlib.Core.List.{List}
 use mathlib.Core.Path.{_≡_}
-use borrow.Author.Tests.{ne-eqb}
+use borrow.Author.Tests.{eq-eqb, ne-eqb}
 use Rattle.layout.specs.Layout.{Layout, Sort}
 use Rattle.layout.proofs.Forms.{Still, drive-still, loop-still}
 use Rattle.entry_writer.specs.State.{State, state, refusedOnce, guarded, plainStep, textStep}
@@ -11,9 +11,13 @@ use Rattle.entry_writer.specs.Run.{writer, run}
 abbrev pub Refused : State → Type 0
 Refused st = st .writer .refusal ≡ 0 → ⊥
 
-guarded-refused : (out st : State) → Refused st → guarded out st ≡ st
+pub guarded-refused : (out st : State) → Refused st → guarded out st ≡ st
 unfolding guarded
 guarded-refused out st h = rw (ne-eqb _ _ h)
+
+pub goes-on : (out st : State) → st .writer .refusal ≡ 0 → guarded out st ≡ out
+unfolding guarded
+goes-on out st z = rw (eq-eqb (st .writer .refusal) 0 z)
 
 plain-refused : (srt : Sort) (rows : List ℕ) (st : State) → Refused st → plainStep srt rows st ≡ st
 unfolding plainStep

@@ -40,7 +40,7 @@ pub fn str_len(value: &[u8]) -> Length
 pub fn bool_len() -> usize
     ensures { λ r. ⌜ r ≡ length (plainBytes Flag 0) ⌝ }
 {
-    1
+    u8_len()
 }
 
 // The length of a tag.

@@ -1,4 +1,7 @@
 //! The text check beside `std::str::from_utf8`: first the answers, then the speed. Built and run by `compare/text [SEED]`.
+mod common;
+
+use common::{median, Random};
 use std::hint::black_box;
 use std::time::Instant;
 
@@ -12,37 +15,6 @@ fn ours(text: &[u8]) -> bool {
 
 fn std(text: &[u8]) -> bool {
     std::str::from_utf8(text).is_ok()
-}
-
-/// A xorshift generator, so that a seed names a run.
-struct Random(u64);
-
-impl Random {
-    fn next(&mut self) -> u64 {
-        self.0 ^= self.0 << 13;
-        self.0 ^= self.0 >> 7;
-        self.0 ^= self.0 << 17;
-        self.0
-    }
-
-    fn below(&mut self, n: usize) -> usize {
-        (self.next() % n as u64) as usize
-    }
-
-    /// At least `len` bytes of characters, each of one of the sizes.
-    fn text(&mut self, len: usize, sizes: &[usize]) -> Vec<u8> {
-        let mut text = String::new();
-        while text.len() < len {
-            let (first, last) = match sizes[self.below(sizes.len())] {
-                1 => (0x20, 0x7e),
-                2 => (0x80, 0x7ff),
-                3 => (0x800, 0xffff),
-                _ => (0x1_0000, 0x10_ffff),
-            };
-            text.extend(char::from_u32((first + self.below(last - first + 1)) as u32));
-        }
-        text.into_bytes()
-    }
 }
 
 /// Compares the answers on a text and counts it.
@@ -95,11 +67,6 @@ fn seconds(check: fn(&[u8]) -> bool, texts: &[Vec<u8>], rounds: usize) -> f64 {
         }
     }
     start.elapsed().as_secs_f64()
-}
-
-fn median(mut times: Vec<f64>) -> f64 {
-    times.sort_by(f64::total_cmp);
-    times[times.len() / 2]
 }
 
 /// Both checks by turns over the same texts: the medians of 31 turns, and how often ours fits into std's.

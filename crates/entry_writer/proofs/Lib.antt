@@ -4,6 +4,7 @@ pub mod Steps
 pub mod Spelled
 pub mod Offsets
 pub mod Measured
+pub mod Row
 pub mod Stored
 pub mod RoundTrips
 pub mod Passes

@@ -2,19 +2,20 @@
 use Prim.Native.Nat.{ℕ}
 use native.Mathlib.Omega.{arith}
 use mathlib.Core.Bool.{Bool, true, false, cond}
-use mathlib.Core.List.{List, _++_}
+use mathlib.Core.List.{List}
 use mathlib.Core.Path.{_≡_, refl, sym, ap, _∙_}
 use lib.Dec.{leb}
-use lib.ListN.{length, drop}
+use lib.ListN.{length}
 use Rattle.layout.specs.Layout.{Layout}
 use Rattle.layout.specs.Reading.{Outcome, ok, refuse, _>>=_, need}
 use Rattle.length.specs.Length.{Length, counted, refused}
 use Rattle.entry_writer.specs.declared.EntryWriter.{EntryWriter}
 use Rattle.entry_writer.specs.Writing.{measured, write, fitting, lengthIn, written}
-use Rattle.entry_writer.specs.State.{State, state, start}
+use Rattle.entry_writer.specs.State.{start}
 use Rattle.entry_writer.specs.Run.{run, finished}
+use Rattle.entry_writer.specs.Stored.{stored}
 use Rattle.entry_writer.proofs.Measured.{measured-law}
-use Rattle.entry_writer.proofs.Stored.{stored-law}
+use Rattle.entry_writer.proofs.Stored.{stored-written}
 
 -- 17 is all that comes after the length
 write-length : (L : Layout) (rows text : List ℕ) (size : ℕ) → fitting (lengthIn (measured L rows text)) size ≡ lengthIn (write L rows text size)
@@ -32,36 +33,30 @@ write-length L rows text size = go (measured L rows text)
 not-refused : (k n p : ℕ) → counted k ≡ refused n p → ⊥
 not-refused k n p z = let w : _≡_ {A = ℕ} 0 1 = cc in omega arith
 
-module _ (L : Layout) (rows text dest : List ℕ) where
+-- The first pass gives the length
+pub first-pass : (L : Layout) (rows text : List ℕ) (w r : EntryWriter) (l : Length) → w ≡ start → r ≡ run L rows text w → l ≡ finished rows r → l ≡ lengthIn (measured L rows text)
+first-pass L rows text w r l a b e = e ∙ ap (finished rows) (b ∙ ap (run L rows text) a) ∙ measured-law L rows text
+
+module _ (L : Layout) (rows text dest : List ℕ) (m l : Length) (e : m ≡ lengthIn (measured L rows text)) (f : l ≡ fitting m (length dest)) where
   -- The length and the destination that a writing promises
-  abbrev Encoded : Length → (after : List ℕ) → Type 0
-  Encoded l after = (l ≡ lengthIn (write L rows text (length dest))) × (after ≡ written (write L rows text (length dest)) dest)
+  abbrev Encoded : (after : List ℕ) → Type 0
+  Encoded after = (l ≡ lengthIn (write L rows text (length dest))) × (after ≡ written (write L rows text (length dest)) dest)
 
-  module _ (after : List ℕ) (w r : EntryWriter) (b : state r after ≡ run L rows text (state w dest)) where
-    -- The first pass gives the length
-    pub first-pass : (l : Length) → w ≡ start false → l ≡ finished rows r → l ≡ lengthIn (measured L rows text)
-    first-pass l a e =
-        e ∙ ap (λ (x : State). finished rows (x .writer)) (b ∙ ap (λ (x : EntryWriter). run L rows text (state x dest)) a) ∙ measured-law L rows text dest
+  whole : l ≡ lengthIn (write L rows text (length dest))
+  whole = f ∙ ap (λ (x : Length). fitting x (length dest)) e ∙ write-length L rows text (length dest)
 
-    -- The second stores the bytes
-    stored : w ≡ start true → (c : List ℕ) (n : ℕ) → write L rows text (length dest) ≡ ok c n → after ≡ c ++ drop n dest
-    stored a c n e = ap (λ (x : State). x .dest) (b ∙ ap (λ (x : EntryWriter). run L rows text (state x dest)) a) ∙ stored-law L rows text dest c n e
+  -- No second pass
+  pub refused-whole : (n p : ℕ) → l ≡ refused n p → Encoded dest
+  refused-whole n p q = go (write L rows text (length dest)) refl
+    where
+      go : (o : Outcome ℕ (List ℕ)) → write L rows text (length dest) ≡ o → Encoded dest
+      go (refuse a b) w = rw w (whole ∙ ap lengthIn w, refl)
+      go (ok b k) w = absurd (not-refused k n p (sym (ap lengthIn w) ∙ sym whole ∙ q))
 
-  module _ (m l : Length) (e : m ≡ lengthIn (measured L rows text)) (f : l ≡ fitting m (length dest)) where
-    whole : l ≡ lengthIn (write L rows text (length dest))
-    whole = f ∙ ap (λ (x : Length). fitting x (length dest)) e ∙ write-length L rows text (length dest)
-
-    -- No second pass
-    pub refused-whole : (n p : ℕ) → l ≡ refused n p → Encoded l dest
-    refused-whole n p q = go (write L rows text (length dest)) refl
-      where
-        go : (o : Outcome ℕ (List ℕ)) → write L rows text (length dest) ≡ o → Encoded l dest
-        go (refuse a b) w = rw w (whole ∙ ap lengthIn w, refl)
-        go (ok b k) w = absurd (not-refused k n p (sym (ap lengthIn w) ∙ sym whole ∙ q))
-
-    pub second-pass : (n : ℕ) → l ≡ counted n → (after : List ℕ) (w r : EntryWriter) → w ≡ start true → state r after ≡ run L rows text (state w dest) → Encoded l after
-    second-pass n q after w r a b = go (write L rows text (length dest)) refl
-      where
-        go : (o : Outcome ℕ (List ℕ)) → write L rows text (length dest) ≡ o → Encoded l after
-        go (refuse x y) z = absurd (not-refused n x y (sym q ∙ whole ∙ ap lengthIn z))
-        go (ok c k) z = rw z (whole ∙ ap lengthIn z, stored after w r b a c k z)
+  -- The second pass stores the bytes
+  pub second-pass : (n : ℕ) → l ≡ counted n → (after : List ℕ) → after ≡ stored rows text dest → Encoded after
+  second-pass n q after s = go (write L rows text (length dest)) refl
+    where
+      go : (o : Outcome ℕ (List ℕ)) → write L rows text (length dest) ≡ o → Encoded after
+      go (refuse x y) z = absurd (not-refused n x y (sym q ∙ whole ∙ ap lengthIn z))
+      go (ok c k) z = rw z (whole ∙ ap lengthIn z, s ∙ stored-written L rows text dest c k z)

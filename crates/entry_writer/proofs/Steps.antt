@@ -1,104 +1,91 @@
--- What the writing of a row comes to, from the tests on it.
-use Prim.Native.Nat.{ℕ, _+_, _≤_, _<_}
-use mathlib.Core.Bool.{Bool, true, false, not, _||_, or-true}
+-- What the taking of a row comes to, from the tests on it.
+use Prim.Native.Nat.{ℕ, _+_, _-_, _≤_, _<_}
+use native.Mathlib.Omega.{arith}
+use mathlib.Core.Bool.{Bool, true, false, not}
 use mathlib.Core.List.{List}
 use mathlib.Core.Path.{_≡_, refl, sym, ap, _∙_}
-use lib.ListN.{length, take, drop}
-use borrow.Author.Tests.{not-true, not-false, lt-ltb, le-ltb, le-leb, lt-leb}
-use Rattle.layout.specs.Layout.{Tag, Flag, Number, Count}
-use Rattle.layout.specs.Written.{four, offsetAt, valueAt}
+use lib.Dec.{leb}
+use lib.ListN.{length, take, drop, length-append, length-drop}
+use lib.Seq.{length-take-le}
+use borrow.Author.Tests.{not-true, not-false, lt-ltb, le-ltb}
+use Rattle.layout.specs.Layout.{Sort, Kind, Tag, Flag, Number, Count, string}
+use Rattle.layout.specs.Written.{four, plainBytes, leafBytes, offsetAt, valueAt}
 use Rattle.layout.specs.Reading.{Outcome, ok, refuse, utf8}
 use Rattle.layout.specs.Answers.{wholeRows}
 use Rattle.entry_writer.specs.declared.EntryWriter.{EntryWriter}
 use Rattle.entry_writer.specs.Rows.{isRow, textIn, staysAt}
-use Rattle.entry_writer.specs.State.{State, state, stopped, spoiled, put, past, done, arrivePlain, putText, arriveText, guarded}
-use Rattle.entry_writer.specs.Private.{numberIn, single, land}
+use Rattle.entry_writer.specs.State.{stopped, spoiled, past, arrivePlain, pastText, arriveText, guarded}
+use Rattle.entry_writer.specs.Private.{numberIn, land}
 use Rattle.entry_writer.proofs.Still.{guarded-refused, goes-on}
 use Rattle.entry_writer.proofs.Spelled.{is-row}
+use Rattle.entry_writer.proofs.Row.{stays-within}
 use Rattle.text.specs.Walk as automaton
 
--- A number that lands as one byte arrives as a tag or a flag, and one that lands as four as a number or a count
-pub land-tag : (o : Outcome ℕ ℕ) (st : State) → land single o st ≡ arrivePlain Tag o st
-land-tag (ok n next) st = refl
-land-tag (refuse n p) st = refl
-
-pub land-flag : (o : Outcome ℕ ℕ) (st : State) → land single o st ≡ arrivePlain Flag o st
-land-flag (ok n next) st = refl
-land-flag (refuse n p) st = refl
-
-pub land-number : (o : Outcome ℕ ℕ) (st : State) → land four o st ≡ arrivePlain Number o st
-land-number (ok n next) st = refl
-land-number (refuse n p) st = refl
-
-pub land-count : (o : Outcome ℕ ℕ) (st : State) → land four o st ≡ arrivePlain Count o st
-land-count (ok n next) st = refl
-land-count (refuse n p) st = refl
-
--- The row of a state
-abbrev rowOf : State → ℕ
-rowOf st = st .writer .row
+-- A number lands as its sort arrives
+pub land-sort : (srt : Sort) (o : Outcome ℕ ℕ) (w : EntryWriter) → land (length (plainBytes srt 0)) o w ≡ arrivePlain srt o w
+land-sort Kind (ok n next) w = refl
+land-sort Tag (ok n next) w = refl
+land-sort Flag (ok n next) w = refl
+land-sort Number (ok n next) w = refl
+land-sort Count (ok n next) w = refl
+land-sort srt (refuse n p) w = refl
 
 -- A row of a sort is one of the whole rows
 pub row-there : (rows : List ℕ) (i sort : ℕ) (t : Bool) → t ≡ isRow rows i sort → not t ≡ false → i < wholeRows rows
 row-there rows i sort t e h = is-row rows i sort (sym e ∙ not-false t h) .0
 
--- No bytes change the row
-pub same-row : (b : List ℕ) (w : EntryWriter) (dest : List ℕ) (st : State) → state w dest ≡ put b st → w .row ≡ rowOf st
-same-row b w dest st e = ap rowOf e
+pub refused-stays : (w out : EntryWriter) → (w .refusal ≡ 0 → ⊥) → w ≡ guarded out w
+refused-stays w out h = sym (guarded-refused out w h)
 
--- Behind bytes, a row is done
-pub row-done : (n : ℕ) (w r : EntryWriter) (dest : List ℕ) (st : State) → state w dest ≡ st → r ≡ past n w → state r dest ≡ done n st
-row-done n w r dest st e q = ap (λ (x : EntryWriter). state x dest) q ∙ ap (done n) e
+step-of : (w out r : EntryWriter) → w .refusal ≡ 0 → r ≡ out → r ≡ guarded out w
+step-of w out r z e = e ∙ sym (goes-on out w z)
 
-pub refused-stays : (st out : State) → (st .writer .refusal ≡ 0 → ⊥) → st ≡ guarded out st
-refused-stays st out h = sym (guarded-refused out st h)
-
-step-of : (st out r : State) → st .writer .refusal ≡ 0 → r ≡ out → r ≡ guarded out st
-step-of st out r z e = e ∙ sym (goes-on out st z)
-
-module _ (rows : List ℕ) (st : State) (z : st .writer .refusal ≡ 0) (r : EntryWriter) (t : Bool) where
+module _ (rows : List ℕ) (w : EntryWriter) (z : w .refusal ≡ 0) (r : EntryWriter) (t : Bool) where
   -- No row of the sort
-  pub number-none : (b : ℕ → List ℕ) (sort bound : ℕ) → t ≡ isRow rows (rowOf st) sort → not t ≡ true → r ≡ stopped (st .writer)
-      → state r (st .dest) ≡ guarded (land b (numberIn rows sort bound (rowOf st)) st) st
-  number-none b sort bound e h q = step-of st _ _ z (rw (← e, not-true t h, q))
+  pub number-none : (size sort bound : ℕ) → t ≡ isRow rows (w .row) sort → not t ≡ true → r ≡ stopped w
+      → r ≡ guarded (land size (numberIn rows sort bound (w .row)) w) w
+  number-none size sort bound e h q = step-of w _ _ z (rw (← e, not-true t h) q)
 
-  pub text-none : (text : List ℕ) → t ≡ isRow rows (rowOf st) 6 → not t ≡ true → r ≡ stopped (st .writer)
-      → state r (st .dest) ≡ guarded (arriveText (staysAt rows text (rowOf st)) (textIn rows text (rowOf st)) st) st
-  text-none text e h q = step-of st _ _ z (rw (← e, not-true t h, q))
+  pub text-none : (text : List ℕ) → t ≡ isRow rows (w .row) 6 → not t ≡ true → r ≡ stopped w
+      → r ≡ guarded (arriveText (staysAt rows text (w .row)) (textIn rows text (w .row)) w) w
+  text-none text e h q = step-of w _ _ z (rw (← e, not-true t h) q)
 
 -- The number in a row of the sort
-module _ (rows : List ℕ) (st : State) (z : st .writer .refusal ≡ 0) (b : ℕ → List ℕ) (sort bound : ℕ) (t : Bool) (e : t ≡ isRow rows (rowOf st) sort) (h : not t ≡ false) (n : ℕ) (q : n ≡ valueAt rows (rowOf st)) where
-  pub number-large : bound ≤ n → (r : EntryWriter) → r ≡ stopped (st .writer) → state r (st .dest) ≡ guarded (land b (numberIn rows sort bound (rowOf st)) st) st
-  number-large k r s = step-of st _ _ z (rw (← e, not-false t h, ← q, le-ltb n bound k, s))
+module _ (rows : List ℕ) (w : EntryWriter) (z : w .refusal ≡ 0) (size sort bound : ℕ) (t : Bool) (e : t ≡ isRow rows (w .row) sort) (h : not t ≡ false) (n : ℕ) (q : n ≡ valueAt rows (w .row)) where
+  pub number-large : bound ≤ n → (r : EntryWriter) → r ≡ stopped w → r ≡ guarded (land size (numberIn rows sort bound (w .row)) w) w
+  number-large k r s = step-of w _ _ z (rw (← e, not-false t h, ← q, le-ltb n bound k) s)
 
-  pub number-lands : n < bound → (r : State) → r ≡ done n (put (b n) st) → r ≡ guarded (land b (numberIn rows sort bound (rowOf st)) st) st
-  number-lands k r s = step-of st _ _ z (rw (← e, not-false t h, ← q, lt-ltb n bound k) s)
+  pub number-lands : n < bound → (r : EntryWriter) → r ≡ past n size w → r ≡ guarded (land size (numberIn rows sort bound (w .row)) w) w
+  number-lands k r s = step-of w _ _ z (rw (← e, not-false t h, ← q, lt-ltb n bound k) s)
 
 -- The text of a row
-module _ (rows text : List ℕ) (st : State) (z : st .writer .refusal ≡ 0) (t : Bool) (e : t ≡ isRow rows (rowOf st) 6) (h : not t ≡ false) (start n : ℕ) (p : start ≡ offsetAt rows (rowOf st)) (q : n ≡ valueAt rows (rowOf st)) where
-  pub text-outside : length text < start + n → (r : EntryWriter) → r ≡ spoiled (st .writer)
-      → state r (st .dest) ≡ guarded (arriveText (staysAt rows text (rowOf st)) (textIn rows text (rowOf st)) st) st
-  text-outside k r s = step-of st _ _ z (rw (← e, not-false t h, ← p, ← q, lt-leb (start + n) (length text) k, s))
+module _ (rows text : List ℕ) (w : EntryWriter) (z : w .refusal ≡ 0) (t : Bool) (e : t ≡ isRow rows (w .row) 6) (h : not t ≡ false) (start n : ℕ) (p : start ≡ offsetAt rows (w .row)) (q : n ≡ valueAt rows (w .row)) (s : Bool) (b : s ≡ leb (start + n) (length text)) where
+  -- It leaves the lent bytes
+  pub text-outside : not s ≡ true → (r : EntryWriter) → r ≡ spoiled w → r ≡ guarded (arriveText (staysAt rows text (w .row)) (textIn rows text (w .row)) w) w
+  text-outside k r y = step-of w _ _ z (rw (← e, not-false t h, ← p, ← q, ← b, not-true s k) y)
 
-  pub text-within : start + n ≤ length text → (size : ℕ) → size ≡ n → (r : State) → r ≡ putText (st .writer .checked || utf8 (take size (drop start text))) (take size (drop start text)) st
-      → r ≡ guarded (arriveText (staysAt rows text (rowOf st)) (textIn rows text (rowOf st)) st) st
-  text-within k size y r s = step-of st _ _ z (rw (← e, not-false t h, ← p, ← q, le-leb (start + n) (length text) k, ← y) s)
+  abbrev lent : List ℕ
+  lent = take n (drop start text)
 
--- A text within the lent bytes
-module _ (st : State) (t : List ℕ) where
-  pub text-bad : not (st .writer .checked) ≡ true → (u : Bool) → u ≡ automaton.utf8 t → not u ≡ true → (r : EntryWriter) → r ≡ spoiled (st .writer)
-      → state r (st .dest) ≡ putText (st .writer .checked || utf8 t) t st
-  unfolding utf8
-  text-bad h u e k r q = rw (q, not-true (st .writer .checked) h, ← e, not-true u k)
+  lent-length : start + n ≤ length text → length lent ≡ n
+  lent-length h = length-take-le n (drop start text) (omega (arith, length-drop start text))
 
-  -- It is known to be good, or it was found to be
-  pub known-good : not (st .writer .checked) ≡ false → (st .writer .checked || utf8 t) ≡ true
-  known-good h = rw (not-false (st .writer .checked) h)
+  -- It stays
+  module _ (k : not s ≡ false) (u : Bool) (f : u ≡ automaton.utf8 (take (start + n - start) (drop start text))) (r : EntryWriter) where
+    text-within : r ≡ pastText u lent w → r ≡ guarded (arriveText (staysAt rows text (w .row)) (textIn rows text (w .row)) w) w
+    unfolding utf8
+    text-within y =
+        let x : start + n - start ≡ n = omega arith in
+        let g = rw x at f in
+        step-of w _ _ z (rw (← e, not-false t h, ← p, ← q, ← b, not-false s k, ← g) y)
 
-  pub found-good : (u : Bool) → u ≡ automaton.utf8 t → not u ≡ false → (st .writer .checked || utf8 t) ≡ true
-  unfolding utf8
-  found-good u e k = rw (← e, not-false u k) (or-true (st .writer .checked))
+    -- And is bad
+    pub text-bad : not u ≡ true → r ≡ spoiled w → r ≡ guarded (arriveText (staysAt rows text (w .row)) (textIn rows text (w .row)) w) w
+    text-bad j y = text-within (rw (not-true u j) y)
 
-  pub text-good : (st .writer .checked || utf8 t) ≡ true → (w v r : EntryWriter) (d e : List ℕ) → state w d ≡ put (four (length t)) st → state v e ≡ put t (state w d) → r ≡ past (length t) v
-      → state r e ≡ putText (st .writer .checked || utf8 t) t st
-  text-good h w v r d e a b q = rw h (row-done (length t) v r e _ (b ∙ ap (put t) a) q)
+    -- And is good
+    pub text-good : not u ≡ false → r ≡ past n (4 + n) w → r ≡ guarded (arriveText (staysAt rows text (w .row)) (textIn rows text (w .row)) w) w
+    text-good j y =
+        let m = lent-length (stays-within s (start + n) (length text) b k) in
+        let l : length (leafBytes (string lent)) ≡ 4 + n = length-append (four (length lent)) lent ∙ omega arith in
+        text-within (rw (not-false u j) (y ∙ sym (ap (λ (i : ℕ). past (length lent) i w) l ∙ ap (λ (i : ℕ). past i (4 + n) w) m)))

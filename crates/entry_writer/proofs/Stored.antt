@@ -1,87 +1,83 @@
--- A writing of texts that are known to be good, into a destination with space enough: what it stores.
-use Prim.Native.Nat.{ℕ, _+_, _≤_}
+-- What is stored, where the rows spell a value of good texts and the destination has space enough.
+use Prim.Native.Nat.{ℕ, _+_, _≤_, _<_}
+use native.Mathlib.Nat.{mod-eq-of-lt}
 use native.Mathlib.Omega.{arith}
-use mathlib.Core.Bool.{true}
+use mathlib.Core.Bool.{true, _&&_, and-eq-true-iff}
 use mathlib.Core.List.{List, [], _∷_, _++_, append-assoc, append-nil}
-use mathlib.Core.Path.{_≡_, refl, sym, ap, subst, _∙_}
+use mathlib.Core.Path.{_≡_, sym, ap, _∙_}
+use lib.Dec.{leb}
 use lib.ListN.{length, drop, length-append, length-drop}
-use lib.Seq.{take-append-seam, drop-append-add, drop-drop}
-use borrow.Author.Tests.{le-leb}
-use Rattle.layout.specs.Layout.{Leaf, plain, string, Layout, Value, leaves}
-use Rattle.layout.specs.Written.{four, plainBytes, leafBytes, bytesOf, bytes}
-use Rattle.layout.specs.Reading.{ok, _>>=_}
+use lib.Seq.{take-append-seam, drop-append-add, drop-drop, length-take-le}
+use borrow.Author.Tests.{le-leb, leb-true, eq-eqb}
+use Rattle.layout.specs.Layout.{Kind, Tag, Flag, Number, Count, Leaf, plain, string, leaves}
+use Rattle.layout.specs.Written.{four, leafBytes, bytesOf, bytes, sortAt, offsetAt, valueAt}
+use Rattle.layout.specs.Reading.{utf8}
 use Rattle.layout.specs.Answers.{wholeRows}
-use Rattle.layout.specs.Alone.{limit}
-use Rattle.layout.proofs.Follow.{pushAll, Follows, moved-of}
+use Rattle.layout.proofs.Each.{Each, each-of}
 use Rattle.paste.specs.Pasted.{pasted}
 use Rattle.paste.proofs.Pasted.{pasted-fits}
-use Rattle.entry_writer.specs.Rows.{goodAt}
-use Rattle.entry_writer.specs.Writing.{write}
-use Rattle.entry_writer.specs.Refusals.{RowGives, Spells, GoodTexts}
-use Rattle.entry_writer.specs.State.{State, state, start, put, done}
-use Rattle.entry_writer.specs.Run.{run}
-use Rattle.entry_writer.proofs.Spelled.{Given, given-there, spells-given, walked, good-sound, all-good, write-exact}
-use Rattle.entry_writer.proofs.Measured.{push, gait, writes, text-put, good-passes, row-after, GoodFrom, good-next}
-
--- A state that has written the bytes a, before r
-record Holds (a r : List ℕ) (st : State) : Type 0 where
-  holds : st .dest ≡ a ++ r
-  pos : st .writer .pos ≡ length a
+use Rattle.entry_writer.specs.Rows.{lentAt, staysAt, goodAt}
+use Rattle.entry_writer.specs.Stored.{rowLength, rowBytes, storedFrom, stored}
+use Rattle.entry_writer.specs.Theorems.{Stored-written}
+use Rattle.entry_writer.specs.Refusals.{RowGives, Sized}
+use Rattle.entry_writer.proofs.Spelled.{Given, given-there, spells-given, whole-rows, good-sound, all-good, write-exact}
+use Rattle.entry_writer.proofs.Measured.{GoodFrom, good-next}
+use Rattle.entry_writer.proofs.Row.{length-one, length-four, length-text, bytes-one, bytes-four, bytes-text}
 
 pasted-behind : (a r b : List ℕ) → length b ≤ length r → pasted (a ++ r) (length a) b ≡ (a ++ b) ++ drop (length b) r
 pasted-behind a r b h = pasted-fits (a ++ r) (length a) b (omega (arith, length-append a r)) ∙ rw (take-append-seam a r, drop-append-add a r (length b))
 
--- Bytes are stored behind what is written
-holds-put : (a r b : List ℕ) (st : State) → Holds a r st → length b ≤ length r → length a + length b ≤ limit → Holds (a ++ b) (drop (length b) r) (put b st)
-holds-put a r b st h k l = record {
-  holds = rw (h .holds, h .pos) (pasted-behind a r b k);
-  pos = rw (h .pos, le-leb (length a + length b) limit l) (sym (length-append a b));
-}
-
 module _ (rows text : List ℕ) where
-  -- A leaf's bytes are
-  holds-push : (a r : List ℕ) (x : Leaf) (st : State) → Holds a r st → RowGives rows text (st .writer .row) x → goodAt rows text (st .writer .row) ≡ true
-      → length (leafBytes x) ≤ length r → length a + length (leafBytes x) ≤ limit → Holds (a ++ leafBytes x) (drop (length (leafBytes x)) r) (push rows text x st)
-  holds-push a r (plain srt n) st h g e k l = let w = holds-put a r (plainBytes srt n) st h k l in record { holds = w .holds; pos = w .pos }
-  holds-push a r (string t) st h g e k l =
-      let f = four (length t) in
-      let w = holds-put a r f st h (omega arith) (omega arith) in
-      let q : length (a ++ f) ≡ length a + 4 = length-append a f in
-      let z = holds-put (a ++ f) (drop 4 r) t (put f st) w (omega (arith, length-drop 4 r)) (omega arith) in
-      let y : push rows text (string t) st ≡ done (length t) (put t (put f st)) = text-put rows text t st true (good-passes rows text t st g e) in
-      let m : 4 + length t ≡ length (f ++ t) = omega (arith, length-append f t) in
-      subst (Holds (a ++ (f ++ t)) (drop (length (f ++ t)) r)) (sym y)
-      (record { holds = z .holds ∙ rw (append-assoc a f t, drop-drop, m); pos = z .pos ∙ rw (append-assoc a f t) })
+  -- The row of a leaf takes its bytes, and has them
+  record Has (i : ℕ) (x : Leaf) : Type 0 where
+    takes : rowLength rows i ≡ length (leafBytes x)
+    has : rowBytes rows text i ≡ leafBytes x
 
-  holds-all : (ls : List Leaf) (a r : List ℕ) (st : State) → Holds a r st → Given rows text (st .writer .row) ls → GoodFrom rows text (st .writer .row) ls
-      → length (bytesOf ls) ≤ length r → length a + length (bytesOf ls) ≤ limit → pushAll (push rows text) ls st .dest ≡ (a ++ bytesOf ls) ++ drop (length (bytesOf ls)) r
-  holds-all [] a r st h g e k l = h .holds ∙ ap (λ (x : List ℕ). x ++ r) (sym (append-nil a))
-  holds-all (x ∷ ls) a r st h g e k l =
-      let i = st .writer .row in
+  one-has : (i sort n : ℕ) → sort ≡ sortAt rows i → sort ≤ 3 → valueAt rows i ≡ n → n < 256 → (rowLength rows i ≡ 1) × (rowBytes rows text i ≡ n ∷ [])
+  one-has i sort n e h v k = (length-one rows i sort e h, bytes-one rows i sort e text h ∙ rw (v, mod-eq-of-lt k))
+
+  four-has : (i sort n : ℕ) → sort ≡ sortAt rows i → 3 < sort → sort ≤ 5 → valueAt rows i ≡ n → (rowLength rows i ≡ 4) × (rowBytes rows text i ≡ four n)
+  four-has i sort n e h k v = (length-four rows i sort e h k, bytes-four rows i sort e text h k ∙ ap four v)
+
+  row-has : (i : ℕ) (x : Leaf) → Sized x → RowGives rows text i x → goodAt rows text i ≡ true → Has i x
+  row-has i (plain Kind n) s g h = let (a, b) = one-has i 1 n (sym (g .0)) (omega arith) (g .1) s in record { takes = a; has = b }
+  row-has i (plain Tag n) s g h = let (a, b) = one-has i 2 n (sym (g .0)) (omega arith) (g .1) s in record { takes = a; has = b }
+  row-has i (plain Flag n) s g h = let (a, b) = one-has i 3 n (sym (g .0)) (omega arith) (g .1) (omega arith) in record { takes = a; has = b }
+  row-has i (plain Number n) s g h = let (a, b) = four-has i 4 n (sym (g .0)) (omega arith) (omega arith) (g .1) in record { takes = a; has = b }
+  row-has i (plain Count n) s g h = let (a, b) = four-has i 5 n (sym (g .0)) (omega arith) (omega arith) (g .1) in record { takes = a; has = b }
+  row-has i (string t) s g h =
+      let e : (staysAt rows text i && utf8 (lentAt rows text i)) ≡ true = rw (eq-eqb (sortAt rows i) 6 (g .0)) at h in
+      let a = and-eq-true-iff (staysAt rows text i) (utf8 (lentAt rows text i)) .0 e .0 in
+      let k : offsetAt rows i + valueAt rows i ≤ length text = leb-true _ _ a in
+      let n : length t ≡ valueAt rows i = ap length (sym (g .1)) ∙ length-take-le (valueAt rows i) (drop (offsetAt rows i) text) (omega (arith, length-drop (offsetAt rows i) text)) in
+      record {
+        takes = length-text rows i 6 (sym (g .0)) (omega arith) ∙ omega (arith, length-append (four (length t)) t);
+        has = bytes-text rows i 6 (sym (g .0)) text (omega arith) ∙ rw (a, g .1, n);
+      }
+
+  stored-leaves : (ls : List Leaf) (i : ℕ) (a r : List ℕ) → Each Sized ls → Given rows text i ls → GoodFrom rows text i ls → length (bytesOf ls) ≤ length r
+      → storedFrom rows text (length ls) i (length a) (a ++ r) ≡ (a ++ bytesOf ls) ++ drop (length (bytesOf ls)) r
+  unfolding storedFrom
+  stored-leaves [] i a r s g h k = ap (λ (x : List ℕ). x ++ r) (sym (append-nil a))
+  stored-leaves (x ∷ ls) i a r s g h k =
       let b = leafBytes x in
+      let w = row-has i x (s .0) (g .0 .1) (h i (omega arith) (omega arith)) in
       let q = length-append b (bytesOf ls) in
-      let u = row-after rows text x st in
-      let w = holds-push a r x st h (g .0 .1) (e i (omega arith) (omega arith)) (omega arith) (omega arith) in
-      let m : length b + length (bytesOf ls) ≡ length (bytesOf (x ∷ ls)) = sym q in
-      holds-all ls (a ++ b) (drop (length b) r) (push rows text x st) w (rw u (g .1)) (rw u (good-next rows text i x ls e)) (omega (arith, length-drop (length b) r)) (omega (arith, length-append a b))
-      ∙ rw (append-assoc a b (bytesOf ls), drop-drop, m)
+      let m : length a + length b ≡ length (a ++ b) = sym (length-append a b) in
+      let f : leb (length a + length b) (length (a ++ r)) ≡ true = le-leb (length a + length b) (length (a ++ r)) (omega (arith, length-append a r)) in
+      rw (w .takes, w .has, f, pasted-behind a r b (omega arith), m)
+      (stored-leaves ls (i + 1) (a ++ b) (drop (length b) r) (s .1) (g .1) (good-next rows text i x ls h) (omega (arith, length-drop (length b) r))
+      ∙ rw (append-assoc a b (bytesOf ls), drop-drop, ← q))
 
-stored-value : (L : Layout) (rows text dest : List ℕ) (v : Value L) → Spells L rows text v → GoodTexts rows text → length (bytes L v) ≤ limit → length (bytes L v) ≤ length dest
-    → run L rows text (state (start true) dest) .dest ≡ bytes L v ++ drop (length (bytes L v)) dest
-stored-value L rows text dest v s good small fits =
-    let st = state (start true) dest in
+pub stored-written : Stored-written
+stored-written L rows text dest b n e =
+    let (v, s, good, x, y, small, fits) = write-exact L rows text (length dest) b n .0 e in
     let ls = leaves L v in
-    let f = subst (λ m. Follows (gait rows text) st (run L rows text st) (m >>= λ a end. ok (leaves L a) end)) (walked L rows text v s) (writes rows text L st refl) in
     let g = spells-given L rows text v s in
     let k = good-sound rows text (wholeRows rows) (all-good rows text good) in
-    ap (λ (z : State). z .dest) (moved-of f .0)
-    ∙ holds-all rows text ls [] dest st (record { holds = refl; pos = refl }) g (λ i p q. k i (given-there rows text 0 ls g i p q)) fits (omega arith)
-
--- What the second pass stores, after the first has found no refusal
-pub stored-law : (L : Layout) (rows text dest b : List ℕ) (n : ℕ) → write L rows text (length dest) ≡ ok b n → run L rows text (state (start true) dest) .dest ≡ b ++ drop n dest
-stored-law L rows text dest b n e =
-    let (v, s, good, x, y, small, fits) = write-exact L rows text (length dest) b n .0 e in
+    let w : wholeRows rows ≡ length ls = whole-rows L rows text (length ls) (s .whole) in
     let q : n ≡ length (bytes L v) = y ∙ ap length x in
-    stored-value L rows text dest v s good (omega arith) (omega arith)
+    ap (λ (k : ℕ). storedFrom rows text k 0 0 dest) w
+    ∙ stored-leaves rows text ls 0 [] dest (each-of Sized L v (s .sized)) g (λ i p z. k i (given-there rows text 0 ls g i p z)) (omega arith)
     ∙ ap (λ (c : List ℕ). c ++ drop (length (bytes L v)) dest) (sym x)
     ∙ ap (λ (k : ℕ). b ++ drop k dest) (sym q)

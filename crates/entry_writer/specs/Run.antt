@@ -1,4 +1,4 @@
--- What the writing of a layout makes of a writer and its destination, one row after the other; and its end.
+-- What the rows of a layout make of a writer, one after the other; and the end of a writing.
 use Prim.Native.Nat.{ℕ, _*_}
 use mathlib.Core.Bool.{cond, _&&_}
 use mathlib.Core.List.{List}
@@ -11,22 +11,22 @@ use Rattle.layout.specs.Machine.{Machine, verdictOn, drive}
 use Rattle.layout.specs.Alone.{limit}
 use Rattle.length.specs.Length.{Length, counted, refused}
 use Rattle.entry_writer.specs.Rows.{inRows}
-use Rattle.entry_writer.specs.State.{State, state, refusedOnce, plainStep, textStep}
+use Rattle.entry_writer.specs.State.{refusedOnce, plainStep, textStep}
 use Rattle.entry_writer.specs.declared.EntryWriter.{EntryWriter}
 
 -- The writing from rows and lent text bytes
-abbrev pub writer : (rows text : List ℕ) → Machine State
+abbrev pub writer : (rows text : List ℕ) → Machine EntryWriter
 writer rows text = record {
-  plainStep = λ srt st. plainStep srt rows st;
-  textStep = λ st. textStep rows text st;
-  value = λ st. st .writer .value;
-  halt = λ f begin st. state (refusedOnce (st .writer)) (st .dest);
-  verdict = λ A judge st. verdictOn judge (leavesAt (inRows rows text) A (st .writer .row));
+  plainStep = λ srt w. plainStep srt rows w;
+  textStep = λ w. textStep rows text w;
+  value = λ w. w .value;
+  halt = λ f begin w. refusedOnce w;
+  verdict = λ A judge w. verdictOn judge (leavesAt (inRows rows text) A (w .row));
 }
 
--- The writing of a layout
-abbrev pub run : Layout → (rows text : List ℕ) → State → State
-run L rows text st = drive (writer rows text) L st
+-- The rows of a layout
+abbrev pub run : Layout → (rows text : List ℕ) → EntryWriter → EntryWriter
+run L rows text w = drive (writer rows text) L w
 
 -- 14, if a row was refused or some are left; 15; 16; or the length
 unfoldable pub finished : (rows : List ℕ) → EntryWriter → Length

@@ -1,9 +1,9 @@
 -- What is proved of the definitions, as statements, for every layout. Each comment names the proof, in proofs/.
 use Prim.Native.Nat.{ℕ, _*_, _≤_, _<_}
-use mathlib.Core.List.{List}
+use mathlib.Core.List.{List, _++_}
 use mathlib.Core.Logic.{_↔_}
 use mathlib.Core.Path.{_≡_}
-use lib.ListN.{length, getD, take}
+use lib.ListN.{length, getD, take, drop}
 use Rattle.layout.specs.Layout.{Layout, Value, Proper}
 use Rattle.layout.specs.Written.{bytes, rowWidth, sortAt, offsetAt, valueAt}
 use Rattle.layout.specs.Reading.{ok, refuse}
@@ -12,6 +12,7 @@ use Rattle.layout.specs.Alone.{limit, readingAlone}
 use Rattle.layout.specs.Theorems.{Bytes}
 use Rattle.entry_writer.specs.Rows.{lentAt}
 use Rattle.entry_writer.specs.Writing.{write}
+use Rattle.entry_writer.specs.Stored.{stored}
 use Rattle.entry_writer.specs.Refusals.{Spells, GoodTexts, Refusal}
 
 -- What is written is what the value that the rows spell derives, of good texts, of at most the limit and within the destination;
@@ -47,6 +48,11 @@ abbrev pub Offset-free : Type 0
 Offset-free =
     (L : Layout) (rows other text : List ℕ) (size : ℕ) → length other ≡ length rows → ((i : ℕ) → i < wholeRows rows → SameRow rows other i)
     → write L other text size ≡ write L rows text size
+
+-- What is stored where a writing is accepted: its bytes, and behind them what was there: `stored-written` in Stored.antt
+abbrev pub Stored-written : Type 0
+Stored-written =
+    (L : Layout) (rows text dest b : List ℕ) (n : ℕ) → write L rows text (length dest) ≡ ok b n → stored rows text dest ≡ b ++ drop n dest
 
 -- A reading of bytes that returns the rows from which they were written, but for offsets, and for each text row the same bytes
 pub record Returns (rows text b : List ℕ) (entities : ℕ) (r : Result) : Type 0 where

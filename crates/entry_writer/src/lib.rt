@@ -1,22 +1,25 @@
-// The rows of a writing: a writer that takes a tag, a flag, a number, a count or a text from the next row, and writes its bytes.
+// The rows of a writing: a writer that takes a tag, a flag, a number, a count or a text from the next row and adds up the length;
+// and the storing of the rows' bytes, once nothing is refused.
 use leaf::LIMIT;
 use leaf::ROW_WIDTH;
 use length::Length;
-ghost use mathlib.Core.Bool.{true, false, _||_};
+ghost use mathlib.Core.Bool.{false};
 ghost use mathlib.Core.Path.{_≡_};
 ghost use Prim.Native.Nat.{_+_, _^_, _<_, _≤_};
+ghost use lib.Dec.{leb};
 ghost use lib.ListN.{length};
 ghost use Rattle.layout.specs.Layout.{Tag, Flag, Number, Count, one};
 ghost use Rattle.layout.specs.Layout as layouts;
-ghost use Rattle.layout.specs.Written.{four, offsetAt, valueAt};
-ghost use Rattle.layout.specs.Reading.{utf8};
+ghost use Rattle.layout.specs.Written.{four, sortAt, offsetAt, valueAt};
 ghost use Rattle.layout.specs.Answers.{wholeRows};
 ghost use Rattle.length.specs.Length.{lengthOf, refused};
+ghost use Rattle.paste.specs.Pasted.{pasted};
 ghost use Rattle.entry_writer.specs.Rows.{isRow};
 ghost use Rattle.entry_writer.specs.Writing.{fitting};
-ghost use Rattle.entry_writer.specs.State.{state, start, stopped, refusedOnce, grown, put, past, spoiled, putText, guarded};
+ghost use Rattle.entry_writer.specs.State.{start, stopped, refusedOnce, grown, past, spoiled, guarded};
 ghost use Rattle.entry_writer.specs.Run.{run, finished};
-ghost use Rattle.entry_writer.specs.Private.{numberIn, land, single};
+ghost use Rattle.entry_writer.specs.Stored.{rowLength, rowBytes, stored};
+ghost use Rattle.entry_writer.specs.Private.{numberIn, land};
 
 // The places of a text's offset and of the value in a row.
 const ROW_OFFSET: usize = 1;
@@ -24,21 +27,19 @@ const ROW_OFFSET: usize = 1;
 const ROW_VALUE: usize = 2;
 
 // Where a writing stands: `row`, the next row; `pos`, the bytes so far, which stop above the limit; `value`, the value of the row
-// before; `refusal`, 0 or 14; `bad`, whether a text row was bad; `checked`, whether the texts are known to be good. A refused
-// writer writes nothing more.
+// before; `refusal`, 0 or 14; `bad`, whether a text row was bad. A refused writer takes no more rows.
 pub struct EntryWriter {
     pub row: usize,
     pub pos: usize,
     pub value: usize,
     pub refusal: u32,
     pub bad: bool,
-    pub checked: bool,
 }
 
 impl EntryWriter {
     // A writer at the first row.
     pub fn new() -> EntryWriter
-        ensures { λ r. ⌜ r ≡ start false ⌝ }
+        ensures { λ r. ⌜ r ≡ start ⌝ }
     {
         EntryWriter {
             row: 0,
@@ -46,21 +47,6 @@ impl EntryWriter {
             value: 0,
             refusal: 0,
             bad: false,
-            checked: false,
-        }
-    }
-
-    // The same, for texts that are known to be good.
-    pub fn of_checked() -> EntryWriter
-        ensures { λ r. ⌜ r ≡ start true ⌝ }
-    {
-        EntryWriter {
-            row: 0,
-            pos: 0,
-            value: 0,
-            refusal: 0,
-            bad: false,
-            checked: true,
         }
     }
 
@@ -74,7 +60,6 @@ impl EntryWriter {
             value: self.value,
             refusal: 14,
             bad: self.bad,
-            checked: self.checked,
         }
     }
 
@@ -88,22 +73,21 @@ impl EntryWriter {
         self.stop()
     }
 
-    // The writer at the next row, with the value of the one before.
-    fn past(self, value: usize) -> EntryWriter
+    // The writer behind a row with a value, which takes so many bytes.
+    fn past(self, value: usize, size: usize) -> EntryWriter
         requires { ⌜ self .row + 1 < 2 ^ 64 ⌝ }
-        ensures { λ r. ⌜ r ≡ past value self ⌝ }
+        ensures { λ r. ⌜ r ≡ past value size self ⌝ }
     {
         EntryWriter {
             row: self.row + 1,
-            pos: self.pos,
+            pos: grown(self.pos, size),
             value,
             refusal: self.refusal,
             bad: self.bad,
-            checked: self.checked,
         }
     }
 
-    // The writer at the next row, behind a bad text.
+    // The writer behind a bad text.
     fn spoiled(self) -> EntryWriter
         requires { ⌜ self .row + 1 < 2 ^ 64 ⌝ }
         ensures { λ r. ⌜ r ≡ spoiled self ⌝ }
@@ -114,29 +98,12 @@ impl EntryWriter {
             value: self.value,
             refusal: self.refusal,
             bad: true,
-            checked: self.checked,
         }
     }
 
-    // Bytes, which are stored if they fit.
-    pub fn bytes(self, value: &[u8], dest: &mut [u8]) -> EntryWriter
-        ensures { λ r. ⌜ state r (now (dest .exit)) ≡ put (now (value .entry)) (state self (now (dest .entry))) ⌝ }
-    {
-        paste::paste(dest, self.pos, value);
-        EntryWriter {
-            row: self.row,
-            pos: grown(self.pos, value.len()),
-            value: self.value,
-            refusal: self.refusal,
-            bad: self.bad,
-            checked: self.checked,
-        }
-    }
-
-    // A byte, from a row of a sort with a value below a bound.
-    fn byte(self, rows: &[u32], dest: &mut [u8], sort: u32, bound: u32) -> EntryWriter
-        requires { ⌜ bound ≤ 256 ⌝ }
-        ensures { λ r. ⌜ state r (now (dest .exit)) ≡ guarded (land single (numberIn (now (rows .entry)) sort bound (self .row)) (state self (now (dest .entry)))) (state self (now (dest .entry))) ⌝ }
+    // A row of a sort with a value below a bound, which takes so many bytes.
+    fn number(self, rows: &[u32], sort: u32, bound: usize, size: usize) -> EntryWriter
+        ensures { λ r. ⌜ r ≡ guarded (land size (numberIn (now (rows .entry)) sort bound (self .row)) self) self ⌝ }
     {
         if self.refusal != 0 {
             return self;
@@ -145,61 +112,44 @@ impl EntryWriter {
         if !is_row(rows, row, sort) {
             return self.stop();
         }
-        let value = value_at(rows, row);
+        let value = value_at(rows, row) as usize;
         if bound <= value {
             return self.stop();
         }
-        let w = self.bytes(&[value as u8], dest);
-        w.past(value as usize)
+        self.past(value, size)
     }
 
-    // Four bytes, from a row of a sort.
-    fn four(self, rows: &[u32], dest: &mut [u8], sort: u32) -> EntryWriter
-        ensures { λ r. ⌜ state r (now (dest .exit)) ≡ guarded (land four (numberIn (now (rows .entry)) sort 4294967296 (self .row)) (state self (now (dest .entry)))) (state self (now (dest .entry))) ⌝ }
+    // This and the next four take the next row, from the rows and the text bytes that are lent. Here: a tag.
+    pub fn u8(self, rows: &[u32], text: &[u8]) -> EntryWriter
+        ensures { λ r. ⌜ r ≡ run (one Tag) (now (rows .entry)) (now (text .entry)) self ⌝ }
     {
-        if self.refusal != 0 {
-            return self;
-        }
-        let row = self.row;
-        if !is_row(rows, row, sort) {
-            return self.stop();
-        }
-        let value = value_at(rows, row);
-        let w = self.bytes(&le_bytes(value), dest);
-        w.past(value as usize)
-    }
-
-    // This and the next four write the next row, from the rows and the text bytes that are lent. Here: a tag.
-    pub fn u8(self, rows: &[u32], text: &[u8], dest: &mut [u8]) -> EntryWriter
-        ensures { λ r. ⌜ state r (now (dest .exit)) ≡ run (one Tag) (now (rows .entry)) (now (text .entry)) (state self (now (dest .entry))) ⌝ }
-    {
-        self.byte(rows, dest, leaf::SORT_TAG, 256)
+        self.number(rows, leaf::SORT_TAG, 256, 1)
     }
 
     // A flag.
-    pub fn bool(self, rows: &[u32], text: &[u8], dest: &mut [u8]) -> EntryWriter
-        ensures { λ r. ⌜ state r (now (dest .exit)) ≡ run (one Flag) (now (rows .entry)) (now (text .entry)) (state self (now (dest .entry))) ⌝ }
+    pub fn bool(self, rows: &[u32], text: &[u8]) -> EntryWriter
+        ensures { λ r. ⌜ r ≡ run (one Flag) (now (rows .entry)) (now (text .entry)) self ⌝ }
     {
-        self.byte(rows, dest, leaf::SORT_FLAG, 2)
+        self.number(rows, leaf::SORT_FLAG, 2, 1)
     }
 
     // A number.
-    pub fn u32(self, rows: &[u32], text: &[u8], dest: &mut [u8]) -> EntryWriter
-        ensures { λ r. ⌜ state r (now (dest .exit)) ≡ run (one Number) (now (rows .entry)) (now (text .entry)) (state self (now (dest .entry))) ⌝ }
+    pub fn u32(self, rows: &[u32], text: &[u8]) -> EntryWriter
+        ensures { λ r. ⌜ r ≡ run (one Number) (now (rows .entry)) (now (text .entry)) self ⌝ }
     {
-        self.four(rows, dest, leaf::SORT_NUMBER)
+        self.number(rows, leaf::SORT_NUMBER, 4294967296, 4)
     }
 
     // The count of a list.
-    pub fn count(self, rows: &[u32], text: &[u8], dest: &mut [u8]) -> EntryWriter
-        ensures { λ r. ⌜ state r (now (dest .exit)) ≡ run (one Count) (now (rows .entry)) (now (text .entry)) (state self (now (dest .entry))) ⌝ }
+    pub fn count(self, rows: &[u32], text: &[u8]) -> EntryWriter
+        ensures { λ r. ⌜ r ≡ run (one Count) (now (rows .entry)) (now (text .entry)) self ⌝ }
     {
-        self.four(rows, dest, leaf::SORT_COUNT)
+        self.number(rows, leaf::SORT_COUNT, 4294967296, 4)
     }
 
     // A text: its length, then its bytes.
-    pub fn str(self, rows: &[u32], text: &[u8], dest: &mut [u8]) -> EntryWriter
-        ensures { λ r. ⌜ state r (now (dest .exit)) ≡ run layouts.text (now (rows .entry)) (now (text .entry)) (state self (now (dest .entry))) ⌝ }
+    pub fn str(self, rows: &[u32], text: &[u8]) -> EntryWriter
+        ensures { λ r. ⌜ r ≡ run layouts.text (now (rows .entry)) (now (text .entry)) self ⌝ }
     {
         if self.refusal != 0 {
             return self;
@@ -210,29 +160,14 @@ impl EntryWriter {
         }
         let start = offset_at(rows, row) as usize;
         let size = value_at(rows, row) as usize;
-        if text.len() < start {
-            return self.spoiled();
-        }
-        if text.len() - start < size {
+        if !stays(text, start, size) {
             return self.spoiled();
         }
         let end = start + size;
-        self.text(&text[start..end], dest)
-    }
-
-    // The length and the bytes of a text, unless it is bad.
-    fn text(self, value: &[u8], dest: &mut [u8]) -> EntryWriter
-        requires { ⌜ (self .row + 1 < 2 ^ 64) × (length (now value) < 2 ^ 32) ⌝ }
-        ensures { λ r. ⌜ state r (now (dest .exit)) ≡ putText (self .checked || utf8 (now (value .entry))) (now (value .entry)) (state self (now (dest .entry))) ⌝ }
-    {
-        if !self.checked {
-            if !text::is_utf8(value) {
-                return self.spoiled();
-            }
+        if !text::is_utf8(&text[start..end]) {
+            return self.spoiled();
         }
-        let w = self.bytes(&le_bytes(value.len() as u32), dest);
-        let w = w.bytes(value, dest);
-        w.past(value.len())
+        self.past(size, 4 + size)
     }
 
     // The answer at the end: 14 unless all rows were taken; 15; 16; or the length.
@@ -274,6 +209,73 @@ pub fn fitting(length: Length, size: usize) -> Length
     length
 }
 
+// Stores the bytes of the rows from the start of dest on, one row after the other, as long as they fit.
+pub fn store(rows: &[u32], text: &[u8], dest: &mut [u8])
+    ensures { λ r. ⌜ now (dest .exit) ≡ stored (now (rows .entry)) (now (text .entry)) (now (dest .entry)) ⌝ }
+{
+    let mut at = 0;
+    let mut row = 0;
+    while row < rows.len() / ROW_WIDTH {
+        let size = row_len(rows, row);
+        if dest.len() - at < size {
+            return;
+        }
+        store_row(rows, text, dest, row, at);
+        at += size;
+        row += 1;
+    }
+}
+
+// The bytes that a row takes.
+fn row_len(rows: &[u32], row: usize) -> usize
+    requires { ⌜ row < wholeRows (now rows) ⌝ }
+    ensures { λ r. ⌜ r ≡ rowLength (now (rows .entry)) row ⌝ }
+{
+    let sort = sort_at(rows, row);
+    if sort <= leaf::SORT_FLAG {
+        return 1;
+    }
+    if sort <= leaf::SORT_COUNT {
+        return 4;
+    }
+    4 + value_at(rows, row) as usize
+}
+
+// Stores the bytes of a row, which fit.
+fn store_row(rows: &[u32], text: &[u8], dest: &mut [u8], row: usize, at: usize)
+    requires { ⌜ (row < wholeRows (now rows)) × (at + rowLength (now rows) row ≤ length (now dest)) ⌝ }
+    ensures { λ r. ⌜ now (dest .exit) ≡ pasted (now (dest .entry)) at (rowBytes (now (rows .entry)) (now (text .entry)) row) ⌝ }
+{
+    let sort = sort_at(rows, row);
+    let value = value_at(rows, row);
+    if sort <= leaf::SORT_FLAG {
+        dest[at] = (value % 256) as u8;
+        return;
+    }
+    store_four(dest, at, value);
+    if sort <= leaf::SORT_COUNT {
+        return;
+    }
+    let start = offset_at(rows, row) as usize;
+    let size = value as usize;
+    if !stays(text, start, size) {
+        return;
+    }
+    let end = start + size;
+    paste::paste(dest, at + 4, &text[start..end]);
+}
+
+// Stores the four bytes of a number, little-endian, which fit.
+fn store_four(dest: &mut [u8], at: usize, n: u32)
+    requires { ⌜ at + 4 ≤ length (now dest) ⌝ }
+    ensures { λ r. ⌜ now (dest .exit) ≡ pasted (now (dest .entry)) at (four n) ⌝ }
+{
+    dest[at] = (n % 256) as u8;
+    dest[at + 1] = (n / 256 % 256) as u8;
+    dest[at + 2] = (n / 65536 % 256) as u8;
+    dest[at + 3] = (n / 16777216 % 256) as u8;
+}
+
 // A length with more bytes; above the limit it stops.
 fn grown(pos: usize, size: usize) -> usize
     ensures { λ r. ⌜ r ≡ grown pos size ⌝ }
@@ -294,8 +296,16 @@ fn is_row(rows: &[u32], row: usize, sort: u32) -> bool
     if rows.len() / ROW_WIDTH <= row {
         return false;
     }
+    sort_at(rows, row) == sort
+}
+
+// The sort of a row.
+fn sort_at(rows: &[u32], row: usize) -> u32
+    requires { ⌜ row < wholeRows (now rows) ⌝ }
+    ensures { λ r. ⌜ r ≡ sortAt (now (rows .entry)) row ⌝ }
+{
     let i = ROW_WIDTH * row;
-    rows[i] == sort
+    rows[i]
 }
 
 // The offset in a row.
@@ -316,16 +326,14 @@ fn value_at(rows: &[u32], row: usize) -> u32
     rows[i]
 }
 
-// The four bytes of a number, little-endian.
-fn le_bytes(n: u32) -> [u8; 4]
-    ensures { λ r. ⌜ r ≡ four n ⌝ }
+// The text's place is within the lent bytes.
+fn stays(text: &[u8], start: usize, size: usize) -> bool
+    ensures { λ r. ⌜ r ≡ leb (start + size) (length (now (text .entry))) ⌝ }
 {
-    [
-        (n % 256) as u8,
-        (n / 256 % 256) as u8,
-        (n / 65536 % 256) as u8,
-        (n / 16777216 % 256) as u8,
-    ]
+    if text.len() < start {
+        return false;
+    }
+    size <= text.len() - start
 }
 
 // A refusal, at no place.

@@ -1,19 +1,20 @@
-// The writer of the metadata of a type, from rows: how it maps to SQL as an argument and as a result.
+// The writer of the metadata of a type, from rows: how it maps to SQL as an argument and as a result. A function takes the rows of
+// its part; once all are taken and nothing is refused, their bytes are stored.
 use entry_writer::EntryWriter;
 use length::Length;
 ghost use mathlib.Core.Path.{_≡_};
 ghost use lib.ListN.{length};
 ghost use Rattle.layout.specs.Entities.{SqlMapping, SqlArrayMapping, Numeric, Returns, SqlMappingList, ArgumentSql, ReturnSql};
+ghost use Rattle.layout.specs.Forms.{times};
 ghost use Rattle.layout.specs.Entities.{ArgumentError, ReturnsError, FunctionMetadataType, OptionResolution, Resolution, TypeOrigin};
 ghost use Rattle.length.specs.Length.{lengthOf};
 ghost use Rattle.entry_writer.specs.Writing.{measured, write, lengthIn, written};
-ghost use Rattle.entry_writer.specs.State.{state};
 ghost use Rattle.entry_writer.specs.Run.{run};
 
-pub fn type_origin(w: EntryWriter, rows: &[u32], text: &[u8], dest: &mut [u8]) -> EntryWriter
-    ensures { λ r. ⌜ state r (now (dest .exit)) ≡ run TypeOrigin (now (rows .entry)) (now (text .entry)) (state w (now (dest .entry))) ⌝ }
+pub fn type_origin(w: EntryWriter, rows: &[u32], text: &[u8]) -> EntryWriter
+    ensures { λ r. ⌜ r ≡ run TypeOrigin (now (rows .entry)) (now (text .entry)) w ⌝ }
 {
-    let w = w.u8(rows, text, dest);
+    let w = w.u8(rows, text);
     let tag = w.value;
     match tag {
         layout::TYPE_ORIGIN_THIS_EXTENSION..=layout::TYPE_ORIGIN_EXTERNAL => w,
@@ -21,101 +22,116 @@ pub fn type_origin(w: EntryWriter, rows: &[u32], text: &[u8], dest: &mut [u8]) -
     }
 }
 
-pub fn sql_mapping(w: EntryWriter, rows: &[u32], text: &[u8], dest: &mut [u8]) -> EntryWriter
-    ensures { λ r. ⌜ state r (now (dest .exit)) ≡ run SqlMapping (now (rows .entry)) (now (text .entry)) (state w (now (dest .entry))) ⌝ }
+pub fn sql_mapping(w: EntryWriter, rows: &[u32], text: &[u8]) -> EntryWriter
+    ensures { λ r. ⌜ r ≡ run SqlMapping (now (rows .entry)) (now (text .entry)) w ⌝ }
 {
-    let w = w.u8(rows, text, dest);
+    sql_mappings(w, rows, text, 1)
+}
+
+// Some mappings. One is taken as a list of one, so that only this loop calls `one_sql_mapping`: the compiler then holds the
+// writer in registers.
+fn sql_mappings(w: EntryWriter, rows: &[u32], text: &[u8], count: usize) -> EntryWriter
+    ensures { λ r. ⌜ r ≡ run (times count SqlMapping) (now (rows .entry)) (now (text .entry)) w ⌝ }
+{
+    let mut w = w;
+    let mut i: usize = 0;
+    while i < count {
+        if w.refusal != 0 {
+            return w;
+        }
+        w = one_sql_mapping(w, rows, text);
+        i += 1;
+    }
+    w
+}
+
+fn one_sql_mapping(w: EntryWriter, rows: &[u32], text: &[u8]) -> EntryWriter
+    ensures { λ r. ⌜ r ≡ run SqlMapping (now (rows .entry)) (now (text .entry)) w ⌝ }
+{
+    let w = w.u8(rows, text);
     let tag = w.value;
     match tag {
-        layout::SQL_MAPPING_AS => w.str(rows, text, dest),
-        layout::SQL_MAPPING_ARRAY => sql_array_mapping(w, rows, text, dest),
-        layout::SQL_MAPPING_NUMERIC => numeric(w, rows, text, dest),
+        layout::SQL_MAPPING_AS => w.str(rows, text),
+        layout::SQL_MAPPING_ARRAY => sql_array_mapping(w, rows, text),
+        layout::SQL_MAPPING_NUMERIC => numeric(w, rows, text),
         layout::SQL_MAPPING_COMPOSITE => w,
         layout::SQL_MAPPING_SKIP => w,
         _ => w.refused(),
     }
 }
 
-pub fn sql_array_mapping(w: EntryWriter, rows: &[u32], text: &[u8], dest: &mut [u8]) -> EntryWriter
-    ensures { λ r. ⌜ state r (now (dest .exit)) ≡ run SqlArrayMapping (now (rows .entry)) (now (text .entry)) (state w (now (dest .entry))) ⌝ }
+pub fn sql_array_mapping(w: EntryWriter, rows: &[u32], text: &[u8]) -> EntryWriter
+    ensures { λ r. ⌜ r ≡ run SqlArrayMapping (now (rows .entry)) (now (text .entry)) w ⌝ }
 {
-    let w = w.u8(rows, text, dest);
+    let w = w.u8(rows, text);
     let tag = w.value;
     match tag {
-        layout::SQL_MAPPING_AS => w.str(rows, text, dest),
-        layout::SQL_MAPPING_NUMERIC => numeric(w, rows, text, dest),
+        layout::SQL_MAPPING_AS => w.str(rows, text),
+        layout::SQL_MAPPING_NUMERIC => numeric(w, rows, text),
         layout::SQL_MAPPING_COMPOSITE => w,
         _ => w.refused(), // Array and Skip too
     }
 }
 
-// A Numeric mapping: each number is written also where its flag is 0.
-pub fn numeric(w: EntryWriter, rows: &[u32], text: &[u8], dest: &mut [u8]) -> EntryWriter
-    ensures { λ r. ⌜ state r (now (dest .exit)) ≡ run Numeric (now (rows .entry)) (now (text .entry)) (state w (now (dest .entry))) ⌝ }
+// A Numeric mapping: each number is taken also where its flag is 0.
+pub fn numeric(w: EntryWriter, rows: &[u32], text: &[u8]) -> EntryWriter
+    ensures { λ r. ⌜ r ≡ run Numeric (now (rows .entry)) (now (text .entry)) w ⌝ }
 {
-    let w = w.bool(rows, text, dest); // has_precision
-    let w = w.u32(rows, text, dest); // precision
-    let w = w.bool(rows, text, dest); // has_scale
-    w.u32(rows, text, dest) // scale
+    let w = w.bool(rows, text); // has_precision
+    let w = w.u32(rows, text); // precision
+    let w = w.bool(rows, text); // has_scale
+    w.u32(rows, text) // scale
 }
 
-pub fn returns(w: EntryWriter, rows: &[u32], text: &[u8], dest: &mut [u8]) -> EntryWriter
-    ensures { λ r. ⌜ state r (now (dest .exit)) ≡ run Returns (now (rows .entry)) (now (text .entry)) (state w (now (dest .entry))) ⌝ }
+pub fn returns(w: EntryWriter, rows: &[u32], text: &[u8]) -> EntryWriter
+    ensures { λ r. ⌜ r ≡ run Returns (now (rows .entry)) (now (text .entry)) w ⌝ }
 {
-    let w = w.u8(rows, text, dest);
+    let w = w.u8(rows, text);
     let tag = w.value;
     match tag {
-        layout::RETURNS_ONE => sql_mapping(w, rows, text, dest),
-        layout::RETURNS_SET_OF => sql_mapping(w, rows, text, dest),
-        layout::RETURNS_TABLE => sql_mapping_list(w, rows, text, dest),
+        layout::RETURNS_ONE => sql_mapping(w, rows, text),
+        layout::RETURNS_SET_OF => sql_mapping(w, rows, text),
+        layout::RETURNS_TABLE => sql_mapping_list(w, rows, text),
         _ => w.refused(),
     }
 }
 
-pub fn sql_mapping_list(w: EntryWriter, rows: &[u32], text: &[u8], dest: &mut [u8]) -> EntryWriter
-    ensures { λ r. ⌜ state r (now (dest .exit)) ≡ run SqlMappingList (now (rows .entry)) (now (text .entry)) (state w (now (dest .entry))) ⌝ }
+pub fn sql_mapping_list(w: EntryWriter, rows: &[u32], text: &[u8]) -> EntryWriter
+    ensures { λ r. ⌜ r ≡ run SqlMappingList (now (rows .entry)) (now (text .entry)) w ⌝ }
 {
-    let mut w = w.count(rows, text, dest);
+    let w = w.count(rows, text);
     let count = w.value;
-    let mut i: usize = 0;
-    while i < count {
-        if w.refusal != 0 {
-            return w;
-        }
-        w = sql_mapping(w, rows, text, dest);
-        i += 1;
-    }
-    w
+    sql_mappings(w, rows, text, count)
 }
 
-pub fn argument_error(w: EntryWriter, rows: &[u32], text: &[u8], dest: &mut [u8]) -> EntryWriter
-    ensures { λ r. ⌜ state r (now (dest .exit)) ≡ run ArgumentError (now (rows .entry)) (now (text .entry)) (state w (now (dest .entry))) ⌝ }
+pub fn argument_error(w: EntryWriter, rows: &[u32], text: &[u8]) -> EntryWriter
+    ensures { λ r. ⌜ r ≡ run ArgumentError (now (rows .entry)) (now (text .entry)) w ⌝ }
 {
-    let w = w.u8(rows, text, dest);
+    let w = w.u8(rows, text);
     let tag = w.value;
     match tag {
         layout::ARG_ERROR_SET_OF..=layout::ARG_ERROR_DATUM => w,
-        layout::ARG_ERROR_NOT_VALID => w.str(rows, text, dest),
+        layout::ARG_ERROR_NOT_VALID => w.str(rows, text),
         _ => w.refused(),
     }
 }
 
-pub fn argument_sql(w: EntryWriter, rows: &[u32], text: &[u8], dest: &mut [u8]) -> EntryWriter
-    ensures { λ r. ⌜ state r (now (dest .exit)) ≡ run ArgumentSql (now (rows .entry)) (now (text .entry)) (state w (now (dest .entry))) ⌝ }
+pub fn argument_sql(w: EntryWriter, rows: &[u32], text: &[u8]) -> EntryWriter
+    ensures { λ r. ⌜ r ≡ run ArgumentSql (now (rows .entry)) (now (text .entry)) w ⌝ }
 {
-    let w = w.u8(rows, text, dest);
+    let w = w.u8(rows, text);
     let tag = w.value;
     match tag {
-        layout::RESULT_OK => sql_mapping(w, rows, text, dest),
-        layout::RESULT_ERR => argument_error(w, rows, text, dest),
+        layout::RESULT_OK => sql_mapping(w, rows, text),
+        layout::RESULT_ERR => argument_error(w, rows, text),
         _ => w.refused(),
     }
 }
 
-pub fn returns_error(w: EntryWriter, rows: &[u32], text: &[u8], dest: &mut [u8]) -> EntryWriter
-    ensures { λ r. ⌜ state r (now (dest .exit)) ≡ run ReturnsError (now (rows .entry)) (now (text .entry)) (state w (now (dest .entry))) ⌝ }
+pub fn returns_error(w: EntryWriter, rows: &[u32], text: &[u8]) -> EntryWriter
+    ensures { λ r. ⌜ r ≡ run ReturnsError (now (rows .entry)) (now (text .entry)) w ⌝ }
 {
-    let w = w.u8(rows, text, dest);
+    let w = w.u8(rows, text);
     let tag = w.value;
     match tag {
         layout::RETURNS_ERROR_NESTED_SET_OF..=layout::RETURNS_ERROR_DATUM => w,
@@ -123,55 +139,49 @@ pub fn returns_error(w: EntryWriter, rows: &[u32], text: &[u8], dest: &mut [u8])
     }
 }
 
-pub fn return_sql(w: EntryWriter, rows: &[u32], text: &[u8], dest: &mut [u8]) -> EntryWriter
-    ensures { λ r. ⌜ state r (now (dest .exit)) ≡ run ReturnSql (now (rows .entry)) (now (text .entry)) (state w (now (dest .entry))) ⌝ }
+pub fn return_sql(w: EntryWriter, rows: &[u32], text: &[u8]) -> EntryWriter
+    ensures { λ r. ⌜ r ≡ run ReturnSql (now (rows .entry)) (now (text .entry)) w ⌝ }
 {
-    let w = w.u8(rows, text, dest);
+    let w = w.u8(rows, text);
     let tag = w.value;
     match tag {
-        layout::RESULT_OK => returns(w, rows, text, dest),
-        layout::RESULT_ERR => returns_error(w, rows, text, dest),
+        layout::RESULT_OK => returns(w, rows, text),
+        layout::RESULT_ERR => returns_error(w, rows, text),
         _ => w.refused(),
     }
 }
 
 // The metadata record.
-pub fn function_metadata_type(
-    w: EntryWriter,
-    rows: &[u32],
-    text: &[u8],
-    dest: &mut [u8],
-) -> EntryWriter
-    ensures { λ r. ⌜ state r (now (dest .exit)) ≡ run FunctionMetadataType (now (rows .entry)) (now (text .entry)) (state w (now (dest .entry))) ⌝ }
+pub fn function_metadata_type(w: EntryWriter, rows: &[u32], text: &[u8]) -> EntryWriter
+    ensures { λ r. ⌜ r ≡ run FunctionMetadataType (now (rows .entry)) (now (text .entry)) w ⌝ }
 {
-    let w = option_resolution(w, rows, text, dest); // resolution
-    let w = argument_sql(w, rows, text, dest); // argument_sql
-    return_sql(w, rows, text, dest) // return_sql
+    let w = option_resolution(w, rows, text); // resolution
+    let w = argument_sql(w, rows, text); // argument_sql
+    return_sql(w, rows, text) // return_sql
 }
 
-pub fn option_resolution(w: EntryWriter, rows: &[u32], text: &[u8], dest: &mut [u8]) -> EntryWriter
-    ensures { λ r. ⌜ state r (now (dest .exit)) ≡ run OptionResolution (now (rows .entry)) (now (text .entry)) (state w (now (dest .entry))) ⌝ }
+pub fn option_resolution(w: EntryWriter, rows: &[u32], text: &[u8]) -> EntryWriter
+    ensures { λ r. ⌜ r ≡ run OptionResolution (now (rows .entry)) (now (text .entry)) w ⌝ }
 {
-    let w = w.bool(rows, text, dest);
+    let w = w.bool(rows, text);
     if w.value != 0 {
-        return resolution(w, rows, text, dest);
+        return resolution(w, rows, text);
     }
     w
 }
 
-pub fn resolution(w: EntryWriter, rows: &[u32], text: &[u8], dest: &mut [u8]) -> EntryWriter
-    ensures { λ r. ⌜ state r (now (dest .exit)) ≡ run Resolution (now (rows .entry)) (now (text .entry)) (state w (now (dest .entry))) ⌝ }
+pub fn resolution(w: EntryWriter, rows: &[u32], text: &[u8]) -> EntryWriter
+    ensures { λ r. ⌜ r ≡ run Resolution (now (rows .entry)) (now (text .entry)) w ⌝ }
 {
-    let w = w.str(rows, text, dest); // type_ident
-    type_origin(w, rows, text, dest) // type_origin
+    let w = w.str(rows, text); // type_ident
+    type_origin(w, rows, text) // type_origin
 }
 
 // The length of a mapping's bytes, or a refusal of 14 to 16.
 pub fn sql_mapping_len(rows: &[u32], text: &[u8]) -> Length
     ensures { λ r. ⌜ lengthOf r ≡ lengthIn (measured SqlMapping (now (rows .entry)) (now (text .entry))) ⌝ }
 {
-    let mut none = [0u8; 0];
-    let w = sql_mapping(EntryWriter::new(), rows, text, &mut none);
+    let w = sql_mapping(EntryWriter::new(), rows, text);
     w.finish(rows)
 }
 
@@ -179,8 +189,7 @@ pub fn sql_mapping_len(rows: &[u32], text: &[u8]) -> Length
 pub fn function_metadata_type_len(rows: &[u32], text: &[u8]) -> Length
     ensures { λ r. ⌜ lengthOf r ≡ lengthIn (measured FunctionMetadataType (now (rows .entry)) (now (text .entry))) ⌝ }
 {
-    let mut none = [0u8; 0];
-    let w = function_metadata_type(EntryWriter::new(), rows, text, &mut none);
+    let w = function_metadata_type(EntryWriter::new(), rows, text);
     w.finish(rows)
 }
 
@@ -193,7 +202,7 @@ pub fn encode_sql_mapping(rows: &[u32], text: &[u8], dest: &mut [u8]) -> Length
     let Length::Bytes { count: _ } = length else {
         return length;
     };
-    sql_mapping(EntryWriter::of_checked(), rows, text, dest);
+    entry_writer::store(rows, text, dest);
     length
 }
 
@@ -206,6 +215,6 @@ pub fn encode_function_metadata_type(rows: &[u32], text: &[u8], dest: &mut [u8])
     let Length::Bytes { count: _ } = length else {
         return length;
     };
-    function_metadata_type(EntryWriter::of_checked(), rows, text, dest);
+    entry_writer::store(rows, text, dest);
     length
 }

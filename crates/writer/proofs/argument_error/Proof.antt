@@ -2,11 +2,11 @@
 use native.Mathlib.Omega.{arith}
 use mathlib.Core.List.{[], _∷_}
 use mathlib.Core.Logic.{⊎-elim}
-use mathlib.Core.Path.{_∙_, refl}
+use mathlib.Core.Path.{refl}
 use Rattle.layout.specs.Entities.{ArgumentError, argumentErrors}
-use Rattle.layout.proofs.Forms.{tags-bare, tags-in, tags-wrong}
 use Rattle.layout.specs.Forms.{_⇒_}
 use Rattle.layout.specs.Layout.{text}
+use Rattle.layout.proofs.Forms.{tags-bare, tags-in, tags-wrong}
 use Rattle.writer.proofs.argument_error.Statement.{statement}
 use Rattle.writer.proofs.argument_error.Tie as tie
 
@@ -19,37 +19,18 @@ str-requires c κs = tt
 refused-requires : tie.Need-refused-requires
 refused-requires c κs = tt
 
-same-length : tie.Need-same-length
-same-length c = c .before .before .str .kept .1 .1 .1 .0 ∙ c .before .before .before .before .before .before .before .u8 .kept .1 .1 .1 .0
-
 returns : tie.Need-returns
 unfolding ArgumentError
-returns c = tags-in argumentErrors 7 _ _ _ _ (c .before .before .before .before .before .before .before .u8 .ensures) (c .before .before .before .before .match .keys1) refl (c .before .before .str .ensures)
-
-same-length-2 : tie.Need-same-length-2
-same-length-2 c = c .before .before .before .before .before .u8 .kept .1 .1 .1 .0
+returns c = tags-in argumentErrors 7 _ _ _ _ (c .before .before .u8 .ensures) (c .before .match .keys1) refl (c .str .ensures)
 
 returns-2 : tie.Need-returns-2
 unfolding ArgumentError
-returns-2 c = tags-bare 1 6 (7 ⇒ text ∷ []) _ _ _ (c .before .before .before .before .before .u8 .ensures) (omega arith) (omega arith)
-
-same-length-3 : tie.Need-same-length-3
-same-length-3 c = c .before .before .before .before .before .u8 .kept .1 .1 .1 .0
+returns-2 c = tags-bare 1 6 (7 ⇒ text ∷ []) _ _ _ (c .before .before .before .u8 .ensures) (omega arith) (omega arith)
 
 returns-3 : tie.Need-returns-3
 unfolding ArgumentError
-returns-3 c = tags-wrong argumentErrors _ _ _ _ (c .before .before .before .before .before .u8 .ensures) (⊎-elim (λ w. omega arith) (λ w. omega arith) (c .before .if1 .came)) (rw (c .refused .ensures))
+returns-3 c = tags-wrong argumentErrors _ _ _ _ (c .before .before .before .u8 .ensures) (⊎-elim (λ w. omega arith) (λ w. omega arith) (c .before .if1 .came)) (c .refused .ensures)
 
 pub argument-error-spec : {M : Type 1} → statement M
 argument-error-spec =
-    tie.close
-    (tie.spec
-    u8-requires
-    str-requires
-    refused-requires
-    same-length
-    returns
-    same-length-2
-    returns-2
-    same-length-3
-    returns-3)
+    tie.close (tie.spec u8-requires str-requires refused-requires returns returns-2 returns-3)

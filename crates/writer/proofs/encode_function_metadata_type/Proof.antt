@@ -1,18 +1,18 @@
 -- A refusal, or the second pass stores the bytes.
-use borrow.Author.Needs.{needs}
 use mathlib.Core.Path.{ap}
 use denote.Ref.{now}
 use Rattle.layout.specs.Entities.{FunctionMetadataType}
 use Rattle.length.specs.Length.{lengthOf}
 use Rattle.entry_writer.proofs.Passes.{refused-whole, second-pass}
+use borrow.Author.Needs.{needs}
 use Rattle.writer.proofs.encode_function_metadata_type.Statement.{statement}
 use Rattle.writer.proofs.encode_function_metadata_type.Tie as tie
 
 function-metadata-type-len-requires : tie.Need-function-metadata-type-len-requires
-function-metadata-type-len-requires c κs = search needs
+function-metadata-type-len-requires c κs = tt
 
 fitting-requires : tie.Need-fitting-requires
-fitting-requires c κs = search needs
+fitting-requires c κs = tt
 
 enum-told : tie.Need-enum-told
 enum-told c = search needs
@@ -21,19 +21,20 @@ enum-told-2 : tie.Need-enum-told-2
 enum-told-2 c = search needs
 
 returns : tie.Need-returns
-returns c = refused-whole FunctionMetadataType (now (c .before .before .before .before .before .before .before .args .rows)) (now (c .before .before .before .before .before .before .before .args .text)) (now (c .before .before .before .before .before .before .before .args .dest)) _ _ (c .before .before .before .function-metadata-type-len .ensures) (c .before .before .fitting .ensures) _ _ (ap lengthOf (c .enum-told2 .given .1))
+returns c =
+    let a = c .before .before .before .before .before .before .before .args in
+    refused-whole FunctionMetadataType (now (a .rows)) (now (a .text)) (now (a .dest)) _ _ (c .before .before .before .function-metadata-type-len .ensures) (c .before .before .fitting .ensures) _ _ (ap lengthOf (c .enum-told2 .given .1))
 
-of-checked-requires : tie.Need-of-checked-requires
-of-checked-requires c κs = search needs
-
-function-metadata-type-requires : tie.Need-function-metadata-type-requires
-function-metadata-type-requires c κs = search needs
+store-requires : tie.Need-store-requires
+store-requires c κs = tt
 
 same-length : tie.Need-same-length
 same-length c = search needs
 
 returns-2 : tie.Need-returns-2
-returns-2 c = second-pass FunctionMetadataType (now (c .before .before .before .before .before .before .before .before .before .before .before .before .args .rows)) (now (c .before .before .before .before .before .before .before .before .before .before .before .before .args .text)) (now (c .before .before .before .before .before .before .before .before .before .before .before .before .args .dest)) _ _ (c .before .before .before .before .before .before .before .before .function-metadata-type-len .ensures) (c .before .before .before .before .before .before .before .fitting .ensures) _ (ap lengthOf (c .before .before .before .before .before .enum-told .given .1)) _ _ _ (c .before .before .before .before .of-checked .ensures) (c .before .before .function-metadata-type .ensures)
+returns-2 c =
+    let a = c .before .before .before .before .before .before .before .before .before .before .before .args in
+    second-pass FunctionMetadataType (now (a .rows)) (now (a .text)) (now (a .dest)) _ _ (c .before .before .before .before .before .before .before .function-metadata-type-len .ensures) (c .before .before .before .before .before .before .fitting .ensures) _ (ap lengthOf (c .before .before .before .before .enum-told .given .1)) _ (c .before .before .store .ensures)
 
 pub encode-function-metadata-type-spec : {M : Type 1} → statement M
 encode-function-metadata-type-spec =
@@ -44,7 +45,6 @@ encode-function-metadata-type-spec =
     enum-told
     enum-told-2
     returns
-    of-checked-requires
-    function-metadata-type-requires
+    store-requires
     same-length
     returns-2)

@@ -1,5 +1,4 @@
 -- The parts, one after the other.
-use mathlib.Core.Path.{_∙_}
 use Rattle.layout.specs.Entities.{Numeric}
 use Rattle.layout.proofs.Forms.{then-in}
 use Rattle.writer.proofs.numeric.Statement.{statement}
@@ -17,20 +16,10 @@ bool-requires-2 c κs = tt
 u32-requires-2 : tie.Need-u32-requires-2
 u32-requires-2 c κs = tt
 
-same-length : tie.Need-same-length
-same-length c = c .before .before .u322 .kept .1 .1 .1 .0 ∙ c .before .before .before .before .before .before .bool2 .kept .1 .1 .1 .0 ∙ c .before .before .before .before .before .before .before .before .before .before .u32 .kept .1 .1 .1 .0 ∙ c .before .before .before .before .before .before .before .before .before .before .before .before .before .before .bool .kept .1 .1 .1 .0
-
 returns : tie.Need-returns
 unfolding Numeric
-returns c = then-in _ _ _ _ _ _ (c .before .before .before .before .before .before .before .before .before .before .before .before .before .before .bool .ensures) (then-in _ _ _ _ _ _ (c .before .before .before .before .before .before .before .before .before .before .u32 .ensures) (then-in _ _ _ _ _ _ (c .before .before .before .before .before .before .bool2 .ensures) (c .before .before .u322 .ensures)))
+returns c = then-in _ _ _ _ _ _ (c .before .before .before .bool .ensures) (then-in _ _ _ _ _ _ (c .before .before .u32 .ensures) (then-in _ _ _ _ _ _ (c .before .bool2 .ensures) (c .u322 .ensures)))
 
 pub numeric-spec : {M : Type 1} → statement M
 numeric-spec =
-    tie.close
-    (tie.spec
-    bool-requires
-    u32-requires
-    bool-requires-2
-    u32-requires-2
-    same-length
-    returns)
+    tie.close (tie.spec bool-requires u32-requires bool-requires-2 u32-requires-2 returns)

@@ -1,6 +1,6 @@
 -- Each known tag, and the rest.
 use native.Mathlib.Omega.{arith}
-use mathlib.Core.Path.{_∙_, refl}
+use mathlib.Core.Path.{refl}
 use Rattle.layout.specs.Entities.{ReturnSql, returnResults}
 use Rattle.layout.proofs.Forms.{tags-in, tags-wrong}
 use Rattle.writer.proofs.return_sql.Statement.{statement}
@@ -18,26 +18,17 @@ returns-error-requires c κs = tt
 refused-requires : tie.Need-refused-requires
 refused-requires c κs = tt
 
-same-length : tie.Need-same-length
-same-length c = c .before .before .returns .kept .1 .1 .1 .0 ∙ c .before .before .before .before .before .before .before .u8 .kept .1 .1 .1 .0
-
 returns : tie.Need-returns
 unfolding ReturnSql
-returns c = tags-in returnResults 1 _ _ _ _ (c .before .before .before .before .before .before .before .u8 .ensures) (c .before .before .before .before .match .keys1) refl (c .before .before .returns .ensures)
-
-same-length-2 : tie.Need-same-length-2
-same-length-2 c = c .before .before .returns-error .kept .1 .1 .1 .0 ∙ c .before .before .before .before .before .before .before .u8 .kept .1 .1 .1 .0
+returns c = tags-in returnResults 1 _ _ _ _ (c .before .before .u8 .ensures) (c .before .match .keys1) refl (c .returns .ensures)
 
 returns-2 : tie.Need-returns-2
 unfolding ReturnSql
-returns-2 c = tags-in returnResults 2 _ _ _ _ (c .before .before .before .before .before .before .before .u8 .ensures) (c .before .before .before .before .match .keys2) refl (c .before .before .returns-error .ensures)
-
-same-length-3 : tie.Need-same-length-3
-same-length-3 c = c .before .before .before .before .u8 .kept .1 .1 .1 .0
+returns-2 c = tags-in returnResults 2 _ _ _ _ (c .before .before .u8 .ensures) (c .before .match .keys2) refl (c .returns-error .ensures)
 
 returns-3 : tie.Need-returns-3
 unfolding ReturnSql
-returns-3 c = tags-wrong returnResults _ _ _ _ (c .before .before .before .before .u8 .ensures) (omega arith) (rw (c .refused .ensures))
+returns-3 c = tags-wrong returnResults _ _ _ _ (c .before .before .u8 .ensures) (omega arith) (c .refused .ensures)
 
 pub return-sql-spec : {M : Type 1} → statement M
 return-sql-spec =
@@ -47,9 +38,6 @@ return-sql-spec =
     returns-requires
     returns-error-requires
     refused-requires
-    same-length
     returns
-    same-length-2
     returns-2
-    same-length-3
     returns-3)

@@ -1,10 +1,10 @@
--- Each known tag, and the rest.
+-- One of the tags, or another.
 use native.Mathlib.Omega.{arith}
 use mathlib.Core.List.{[]}
 use mathlib.Core.Logic.{⊎-elim}
 use Rattle.layout.specs.Entities.{ReturnsError}
-use Rattle.layout.proofs.Forms.{tags-bare, tags-wrong}
 use Rattle.layout.specs.Forms.{bare}
+use Rattle.layout.proofs.Forms.{tags-bare, tags-wrong}
 use Rattle.writer.proofs.returns_error.Statement.{statement}
 use Rattle.writer.proofs.returns_error.Tie as tie
 
@@ -14,21 +14,13 @@ u8-requires c κs = tt
 refused-requires : tie.Need-refused-requires
 refused-requires c κs = tt
 
-same-length : tie.Need-same-length
-same-length c = c .before .before .before .before .u8 .kept .1 .1 .1 .0
-
 returns : tie.Need-returns
 unfolding ReturnsError
-returns c = tags-bare 1 10 [] _ _ _ (c .before .before .before .before .u8 .ensures) (omega arith) (omega arith)
-
-same-length-2 : tie.Need-same-length-2
-same-length-2 c = c .before .before .before .before .u8 .kept .1 .1 .1 .0
+returns c = tags-bare 1 10 [] _ _ _ (c .before .before .u8 .ensures) (omega arith) (omega arith)
 
 returns-2 : tie.Need-returns-2
 unfolding ReturnsError
-returns-2 c = tags-wrong (bare 1 10) _ _ _ _ (c .before .before .before .before .u8 .ensures) (⊎-elim (λ w. omega arith) (λ w. omega arith) (c .before .if1 .came)) (rw (c .refused .ensures))
+returns-2 c = tags-wrong (bare 1 10) _ _ _ _ (c .before .before .u8 .ensures) (⊎-elim (λ w. omega arith) (λ w. omega arith) (c .before .if1 .came)) (c .refused .ensures)
 
 pub returns-error-spec : {M : Type 1} → statement M
-returns-error-spec =
-    tie.close
-    (tie.spec u8-requires refused-requires same-length returns same-length-2 returns-2)
+returns-error-spec = tie.close (tie.spec u8-requires refused-requires returns returns-2)

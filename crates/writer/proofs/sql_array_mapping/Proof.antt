@@ -1,6 +1,6 @@
 -- Each known tag, and the rest.
 use native.Mathlib.Omega.{arith}
-use mathlib.Core.Path.{_∙_, refl}
+use mathlib.Core.Path.{refl}
 use Rattle.layout.specs.Entities.{SqlArrayMapping, sqlArrayMappings}
 use Rattle.layout.proofs.Forms.{drive-nothing, tags-in, tags-wrong}
 use Rattle.writer.proofs.sql_array_mapping.Statement.{statement}
@@ -18,33 +18,21 @@ numeric-requires c κs = tt
 refused-requires : tie.Need-refused-requires
 refused-requires c κs = tt
 
-same-length : tie.Need-same-length
-same-length c = c .before .before .str .kept .1 .1 .1 .0 ∙ c .before .before .before .before .before .before .before .u8 .kept .1 .1 .1 .0
-
 returns : tie.Need-returns
 unfolding SqlArrayMapping
-returns c = tags-in sqlArrayMappings 1 _ _ _ _ (c .before .before .before .before .before .before .before .u8 .ensures) (c .before .before .before .before .match .keys1) refl (c .before .before .str .ensures)
-
-same-length-2 : tie.Need-same-length-2
-same-length-2 c = c .before .before .numeric .kept .1 .1 .1 .0 ∙ c .before .before .before .before .before .before .before .u8 .kept .1 .1 .1 .0
+returns c = tags-in sqlArrayMappings 1 _ _ _ _ (c .before .before .u8 .ensures) (c .before .match .keys1) refl (c .str .ensures)
 
 returns-2 : tie.Need-returns-2
 unfolding SqlArrayMapping
-returns-2 c = tags-in sqlArrayMappings 3 _ _ _ _ (c .before .before .before .before .before .before .before .u8 .ensures) (c .before .before .before .before .match .keys2) refl (c .before .before .numeric .ensures)
-
-same-length-3 : tie.Need-same-length-3
-same-length-3 c = c .before .before .before .u8 .kept .1 .1 .1 .0
+returns-2 c = tags-in sqlArrayMappings 3 _ _ _ _ (c .before .before .u8 .ensures) (c .before .match .keys2) refl (c .numeric .ensures)
 
 returns-3 : tie.Need-returns-3
 unfolding SqlArrayMapping
-returns-3 c = tags-in sqlArrayMappings 4 _ _ _ _ (c .before .before .before .u8 .ensures) (c .match .keys3) refl (drive-nothing _ _)
-
-same-length-4 : tie.Need-same-length-4
-same-length-4 c = c .before .before .before .before .u8 .kept .1 .1 .1 .0
+returns-3 c = tags-in sqlArrayMappings 4 _ _ _ _ (c .before .u8 .ensures) (c .match .keys3) refl (drive-nothing _ _)
 
 returns-4 : tie.Need-returns-4
 unfolding SqlArrayMapping
-returns-4 c = tags-wrong sqlArrayMappings _ _ _ _ (c .before .before .before .before .u8 .ensures) (omega arith) (rw (c .refused .ensures))
+returns-4 c = tags-wrong sqlArrayMappings _ _ _ _ (c .before .before .u8 .ensures) (omega arith) (c .refused .ensures)
 
 pub sql-array-mapping-spec : {M : Type 1} → statement M
 sql-array-mapping-spec =
@@ -54,11 +42,7 @@ sql-array-mapping-spec =
     str-requires
     numeric-requires
     refused-requires
-    same-length
     returns
-    same-length-2
     returns-2
-    same-length-3
     returns-3
-    same-length-4
     returns-4)

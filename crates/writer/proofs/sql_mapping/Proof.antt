@@ -1,86 +1,14 @@
--- Each known tag, and the rest.
-use native.Mathlib.Omega.{arith}
-use mathlib.Core.Path.{_∙_, refl}
-use Rattle.layout.specs.Entities.{SqlMapping, sqlMappings}
-use Rattle.layout.proofs.Forms.{drive-nothing, tags-in, tags-wrong}
+-- A list of one mapping is the mapping.
+use Rattle.layout.specs.Machine.{drive}
 use Rattle.writer.proofs.sql_mapping.Statement.{statement}
 use Rattle.writer.proofs.sql_mapping.Tie as tie
 
-u8-requires : tie.Need-u8-requires
-u8-requires c κs = tt
-
-str-requires : tie.Need-str-requires
-str-requires c κs = tt
-
-sql-array-mapping-requires : tie.Need-sql-array-mapping-requires
-sql-array-mapping-requires c κs = tt
-
-numeric-requires : tie.Need-numeric-requires
-numeric-requires c κs = tt
-
-refused-requires : tie.Need-refused-requires
-refused-requires c κs = tt
-
-same-length : tie.Need-same-length
-same-length c = c .before .before .str .kept .1 .1 .1 .0 ∙ c .before .before .before .before .before .before .before .u8 .kept .1 .1 .1 .0
+sql-mappings-requires : tie.Need-sql-mappings-requires
+sql-mappings-requires c κs = tt
 
 returns : tie.Need-returns
-unfolding SqlMapping
-returns c = tags-in sqlMappings 1 _ _ _ _ (c .before .before .before .before .before .before .before .u8 .ensures) (c .before .before .before .before .match .keys1) refl (c .before .before .str .ensures)
-
-same-length-2 : tie.Need-same-length-2
-same-length-2 c = c .before .before .sql-array-mapping .kept .1 .1 .1 .0 ∙ c .before .before .before .before .before .before .before .u8 .kept .1 .1 .1 .0
-
-returns-2 : tie.Need-returns-2
-unfolding SqlMapping
-returns-2 c = tags-in sqlMappings 2 _ _ _ _ (c .before .before .before .before .before .before .before .u8 .ensures) (c .before .before .before .before .match .keys2) refl (c .before .before .sql-array-mapping .ensures)
-
-same-length-3 : tie.Need-same-length-3
-same-length-3 c = c .before .before .numeric .kept .1 .1 .1 .0 ∙ c .before .before .before .before .before .before .before .u8 .kept .1 .1 .1 .0
-
-returns-3 : tie.Need-returns-3
-unfolding SqlMapping
-returns-3 c = tags-in sqlMappings 3 _ _ _ _ (c .before .before .before .before .before .before .before .u8 .ensures) (c .before .before .before .before .match .keys3) refl (c .before .before .numeric .ensures)
-
-same-length-4 : tie.Need-same-length-4
-same-length-4 c = c .before .before .before .u8 .kept .1 .1 .1 .0
-
-returns-4 : tie.Need-returns-4
-unfolding SqlMapping
-returns-4 c = tags-in sqlMappings 4 _ _ _ _ (c .before .before .before .u8 .ensures) (c .match .keys4) refl (drive-nothing _ _)
-
-same-length-5 : tie.Need-same-length-5
-same-length-5 c = c .before .before .before .u8 .kept .1 .1 .1 .0
-
-returns-5 : tie.Need-returns-5
-unfolding SqlMapping
-returns-5 c = tags-in sqlMappings 5 _ _ _ _ (c .before .before .before .u8 .ensures) (c .match .keys5) refl (drive-nothing _ _)
-
-same-length-6 : tie.Need-same-length-6
-same-length-6 c = c .before .before .before .before .u8 .kept .1 .1 .1 .0
-
-returns-6 : tie.Need-returns-6
-unfolding SqlMapping
-returns-6 c = tags-wrong sqlMappings _ _ _ _ (c .before .before .before .before .u8 .ensures) (omega arith) (rw (c .refused .ensures))
+unfolding drive
+returns c = c .sql-mappings .ensures
 
 pub sql-mapping-spec : {M : Type 1} → statement M
-sql-mapping-spec =
-    tie.close
-    (tie.spec
-    u8-requires
-    str-requires
-    sql-array-mapping-requires
-    numeric-requires
-    refused-requires
-    same-length
-    returns
-    same-length-2
-    returns-2
-    same-length-3
-    returns-3
-    same-length-4
-    returns-4
-    same-length-5
-    returns-5
-    same-length-6
-    returns-6)
+sql-mapping-spec = tie.close (tie.spec sql-mappings-requires returns)

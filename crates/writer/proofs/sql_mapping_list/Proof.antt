@@ -1,70 +1,18 @@
--- i items are written; the others are still to come.
-use Prim.Native.Nat.{_-_}
-use native.Mathlib.Nat.{sub-zero}
-use native.Mathlib.Omega.{arith}
-use mathlib.Core.Path.{_≡_, refl}
-use lib.ListN.{length}
-use borrow.Author.Needs.{needs}
-use Rattle.layout.proofs.Forms.{list-in, loop-on, loop-end}
-use Rattle.entry_writer.proofs.Still.{loop-refused}
-use Rattle.entry_writer.specs.Run.{run}
-use Rattle.entry_writer.specs.State.{state}
-use Rattle.layout.specs.Entities.{SqlMappingList, SqlMapping}
-use Rattle.layout.specs.Forms.{times}
+-- The count, then as many mappings.
+use Rattle.layout.specs.Entities.{SqlMappingList}
+use Rattle.layout.proofs.Forms.{list-in}
 use Rattle.writer.proofs.sql_mapping_list.Statement.{statement}
 use Rattle.writer.proofs.sql_mapping_list.Tie as tie
 
-abbrev Inv-loop : tie.InvT-loop
-Inv-loop rows text dest₀ w₀ count i₀ dest w i = (length dest ≡ length dest₀) × (run (times count SqlMapping) rows text (state w₀ dest₀) ≡ run (times (count - i) SqlMapping) rows text (state w dest))
-
-abbrev μ-loop : tie.MeasureT-loop
-μ-loop rows text dest₀ w₀ count i₀ dest w i = count - i
-
-count-requires : tie.Need-count-requires Inv-loop μ-loop
+count-requires : tie.Need-count-requires
 count-requires c κs = tt
 
-loop-holds : tie.Need-loop-holds Inv-loop μ-loop
-loop-holds c = (refl, simp sub-zero)
+sql-mappings-requires : tie.Need-sql-mappings-requires
+sql-mappings-requires c κs = tt
 
-same-length : tie.Need-same-length Inv-loop μ-loop
-same-length c = search (needs, c .before .before .before .loop .inv .0)
-
-returns : tie.Need-returns Inv-loop μ-loop
+returns : tie.Need-returns
 unfolding SqlMappingList
-returns c = list-in _ _ _ _ _ (c .before .before .before .before .before .before .count .ensures) (loop-refused _ _ _ _ _ (c .before .before .before .loop .inv .1) (c .if1 .taken))
-
-sql-mapping-requires : tie.Need-sql-mapping-requires Inv-loop μ-loop
-sql-mapping-requires c κs = tt
-
-add-i : tie.Need-add-i Inv-loop μ-loop
-add-i c = omega arith
-
-loop-less : tie.Need-loop-less Inv-loop μ-loop
-loop-less c = omega arith
-
-loop-again : tie.Need-loop-again Inv-loop μ-loop
-loop-again c = (search (needs, c .before .before .before .before .before .before .before .loop .inv .0), loop-on _ _ SqlMapping _ _ _ _ (c .before .before .before .before .before .before .before .loop .inv .1) (c .before .before .before .before .before .before .loop-test .taken) (c .before .before .sql-mapping .ensures))
-
-same-length-2 : tie.Need-same-length-2 Inv-loop μ-loop
-same-length-2 c = search needs
-
-returns-2 : tie.Need-returns-2 Inv-loop μ-loop
-unfolding SqlMappingList
-returns-2 c = list-in _ _ _ _ _ (c .before .before .before .before .count .ensures) (loop-end _ _ SqlMapping _ _ _ (c .before .loop .inv .1) (c .loop-test .left))
+returns c = list-in _ _ _ _ _ (c .before .count .ensures) (c .sql-mappings .ensures)
 
 pub sql-mapping-list-spec : {M : Type 1} → statement M
-sql-mapping-list-spec =
-    tie.close
-    (tie.spec
-    Inv-loop
-    μ-loop
-    count-requires
-    loop-holds
-    same-length
-    returns
-    sql-mapping-requires
-    add-i
-    loop-less
-    loop-again
-    same-length-2
-    returns-2)
+sql-mapping-list-spec = tie.close (tie.spec count-requires sql-mappings-requires returns)

@@ -1,13 +1,12 @@
--- Refused, no text row, not within the lent bytes, or a text.
-use Prim.Native.Nat.{_+_, _-_}
+-- Refused, no such row, a text that leaves the lent bytes, a bad one, or a good one.
 use native.Mathlib.Omega.{arith}
+use lib.ListN.{length}
 use borrow.Author.Needs.{needs}
 use denote.Ref.{now}
-use lib.ListN.{drop, length-drop}
-use lib.Seq.{length-take-le}
 use Rattle.layout.specs.Machine.{drive}
-use Rattle.entry_writer.specs.State.{state, textStep}
-use Rattle.entry_writer.proofs.Steps.{row-there, refused-stays, text-none, text-outside, text-within}
+use Rattle.entry_writer.specs.State.{textStep}
+use Rattle.entry_writer.proofs.Steps.{row-there, refused-stays, text-none, text-outside, text-bad, text-good}
+use Rattle.entry_writer.proofs.Row.{stays-within}
 use Rattle.entry_writer.proofs.EntryWriter.str.Statement.{statement}
 use Rattle.entry_writer.proofs.EntryWriter.str.Tie as tie
 
@@ -23,58 +22,69 @@ stop-requires c κs = search needs
 
 returns-2 : tie.Need-returns-2
 unfolding drive textStep
-returns-2 c = text-none (now (c .before .before .before .before .before .before .before .before .args .rows)) (state (c .before .before .before .before .before .before .before .before .args .self) (now (c .before .before .before .before .before .before .before .before .args .dest))) (c .before .before .before .if1 .left) _ _ (now (c .before .before .before .before .before .before .before .before .args .text)) (c .before .before .is-row .ensures) (c .before .if2 .taken) (c .stop .ensures)
+returns-2 c =
+    let a = c .before .before .before .before .before .before .before .args in
+    text-none (now (a .rows)) (a .self) (c .before .before .before .if1 .left) _ _ (now (a .text)) (c .before .before .is-row .ensures) (c .before .if2 .taken) (c .stop .ensures)
 
 offset-at-requires : tie.Need-offset-at-requires
-offset-at-requires c κs = row-there (now (c .before .before .before .before .before .before .before .args .rows)) (c .before .before .before .before .before .before .before .args .self .row) 6 (c .before .is-row .result) (c .before .is-row .ensures) (c .if2 .left)
+offset-at-requires c κs = let a = c .before .before .before .before .before .before .args in row-there (now (a .rows)) (a .self .row) 6 _ (c .before .is-row .ensures) (c .if2 .left)
 
 cast-start : tie.Need-cast-start
 cast-start c = search needs
 
 value-at-requires : tie.Need-value-at-requires
-value-at-requires c κs = row-there (now (c .before .before .before .before .before .before .before .before .args .rows)) (c .before .before .before .before .before .before .before .before .args .self .row) 6 (c .before .before .is-row .result) (c .before .before .is-row .ensures) (c .before .if2 .left)
+value-at-requires c κs = let a = c .before .before .before .before .before .before .before .args in row-there (now (a .rows)) (a .self .row) 6 _ (c .before .before .is-row .ensures) (c .before .if2 .left)
 
 cast-size : tie.Need-cast-size
 cast-size c = search needs
 
+stays-requires : tie.Need-stays-requires
+stays-requires c κs = search needs
+
 spoiled-requires : tie.Need-spoiled-requires
-spoiled-requires c κs = omega (arith, row-there (now (c .before .before .before .before .before .before .before .before .before .before .args .rows)) (c .before .before .before .before .before .before .before .before .before .before .args .self .row) 6 (c .before .before .before .before .is-row .result) (c .before .before .before .before .is-row .ensures) (c .before .before .before .if2 .left))
+spoiled-requires c κs = let a = c .before .before .before .before .before .before .before .before .before .before .args in omega (arith, row-there (now (a .rows)) (a .self .row) 6 _ (c .before .before .before .before .before .is-row .ensures) (c .before .before .before .before .if2 .left))
 
 returns-3 : tie.Need-returns-3
 unfolding drive textStep
-returns-3 c = text-outside (now (c .before .before .before .before .before .before .before .before .before .before .before .args .rows)) (now (c .before .before .before .before .before .before .before .before .before .before .before .args .text)) (state (c .before .before .before .before .before .before .before .before .before .before .before .args .self) (now (c .before .before .before .before .before .before .before .before .before .before .before .args .dest))) (c .before .before .before .before .before .before .if1 .left) (c .before .before .before .before .before .is-row .result) (c .before .before .before .before .before .is-row .ensures) (c .before .before .before .before .if2 .left) (c .before .before .before .offset-at .result) (c .before .before .value-at .result) (c .before .before .before .offset-at .ensures) (c .before .before .value-at .ensures) (omega arith) _ (c .spoiled .ensures)
-
-sub-if4 : tie.Need-sub-if4
-sub-if4 c = search needs
-
-spoiled-requires-2 : tie.Need-spoiled-requires-2
-spoiled-requires-2 c κs = omega (arith, row-there (now (c .before .before .before .before .before .before .before .before .before .before .before .args .rows)) (c .before .before .before .before .before .before .before .before .before .before .before .args .self .row) 6 (c .before .before .before .before .before .is-row .result) (c .before .before .before .before .before .is-row .ensures) (c .before .before .before .before .if2 .left))
-
-returns-4 : tie.Need-returns-4
-unfolding drive textStep
-returns-4 c = text-outside (now (c .before .before .before .before .before .before .before .before .before .before .before .before .args .rows)) (now (c .before .before .before .before .before .before .before .before .before .before .before .before .args .text)) (state (c .before .before .before .before .before .before .before .before .before .before .before .before .args .self) (now (c .before .before .before .before .before .before .before .before .before .before .before .before .args .dest))) (c .before .before .before .before .before .before .before .if1 .left) (c .before .before .before .before .before .before .is-row .result) (c .before .before .before .before .before .before .is-row .ensures) (c .before .before .before .before .before .if2 .left) (c .before .before .before .before .offset-at .result) (c .before .before .before .value-at .result) (c .before .before .before .before .offset-at .ensures) (c .before .before .before .value-at .ensures) (omega arith) _ (c .spoiled2 .ensures)
+returns-3 c =
+    let a = c .before .before .before .before .before .before .before .before .before .before .before .args in
+    text-outside (now (a .rows)) (now (a .text)) (a .self) (c .before .before .before .before .before .before .before .if1 .left) _ (c .before .before .before .before .before .before .is-row .ensures) (c .before .before .before .before .before .if2 .left) _ _ (c .before .before .before .before .offset-at .ensures) (c .before .before .before .value-at .ensures) _ (c .before .before .stays .ensures) (c .before .if3 .taken) _ (c .spoiled .ensures)
 
 add-end : tie.Need-add-end
 add-end c = search needs
 
-sub-text : tie.Need-sub-text
-sub-text c = search needs
+sub-is-utf8 : tie.Need-sub-is-utf8
+sub-is-utf8 c = search needs
 
-part-text-start : tie.Need-part-text-start
-part-text-start c = search needs
+part-is-utf8-start : tie.Need-part-is-utf8-start
+part-is-utf8-start c = search needs
 
-part-text-end : tie.Need-part-text-end
-part-text-end c = search needs
+part-is-utf8-end : tie.Need-part-is-utf8-end
+part-is-utf8-end c = let a = c .before .before .before .before .before .before .before .before .before .before .args in stays-within _ _ (length (now (a .text))) (c .before .stays .ensures) (c .if3 .left)
 
-text-requires : tie.Need-text-requires
-text-requires c κs = let s = c .before .before .before .before .before .offset-at .result in let n = c .before .before .before .before .value-at .result in (omega (arith, row-there (now (c .before .before .before .before .before .before .before .before .before .before .before .before .before .args .rows)) (c .before .before .before .before .before .before .before .before .before .before .before .before .before .args .self .row) 6 (c .before .before .before .before .before .before .before .is-row .result) (c .before .before .before .before .before .before .before .is-row .ensures) (c .before .before .before .before .before .before .if2 .left)), omega (arith, length-take-le (s + n - s) (drop s (now (c .before .before .before .before .before .before .before .before .before .before .before .before .before .args .text))) (omega (arith, length-drop s (now (c .before .before .before .before .before .before .before .before .before .before .before .before .before .args .text))))))
+is-utf8-requires : tie.Need-is-utf8-requires
+is-utf8-requires c κs = search needs
 
-same-length : tie.Need-same-length
-same-length c = search needs
+spoiled-requires-2 : tie.Need-spoiled-requires-2
+spoiled-requires-2 c κs = let a = c .before .before .before .before .before .before .before .before .before .before .before .before .before .args in omega (arith, row-there (now (a .rows)) (a .self .row) 6 _ (c .before .before .before .before .before .before .before .before .is-row .ensures) (c .before .before .before .before .before .before .before .if2 .left))
+
+returns-4 : tie.Need-returns-4
+unfolding drive textStep
+returns-4 c =
+    let a = c .before .before .before .before .before .before .before .before .before .before .before .before .before .before .args in
+    text-bad (now (a .rows)) (now (a .text)) (a .self) (c .before .before .before .before .before .before .before .before .before .before .if1 .left) _ (c .before .before .before .before .before .before .before .before .before .is-row .ensures) (c .before .before .before .before .before .before .before .before .if2 .left) _ _ (c .before .before .before .before .before .before .before .offset-at .ensures) (c .before .before .before .before .before .before .value-at .ensures) _ (c .before .before .before .before .before .stays .ensures) (c .before .before .before .before .if3 .left) _ (c .before .before .is-utf8 .ensures) _ (c .before .if4 .taken) (c .spoiled2 .ensures)
+
+add-past : tie.Need-add-past
+add-past c = search needs
+
+past-requires : tie.Need-past-requires
+past-requires c κs = let a = c .before .before .before .before .before .before .before .before .before .before .before .before .before .args in omega (arith, row-there (now (a .rows)) (a .self .row) 6 _ (c .before .before .before .before .before .before .before .before .is-row .ensures) (c .before .before .before .before .before .before .before .if2 .left))
 
 returns-5 : tie.Need-returns-5
 unfolding drive textStep
-returns-5 c = let s = c .before .before .before .before .before .before .before .before .offset-at .result in let n = c .before .before .before .before .before .before .before .value-at .result in text-within (now (c .before .before .before .before .before .before .before .before .before .before .before .before .before .before .before .before .args .rows)) (now (c .before .before .before .before .before .before .before .before .before .before .before .before .before .before .before .before .args .text)) (state (c .before .before .before .before .before .before .before .before .before .before .before .before .before .before .before .before .args .self) (now (c .before .before .before .before .before .before .before .before .before .before .before .before .before .before .before .before .args .dest))) (c .before .before .before .before .before .before .before .before .before .before .before .if1 .left) (c .before .before .before .before .before .before .before .before .before .before .is-row .result) (c .before .before .before .before .before .before .before .before .before .before .is-row .ensures) (c .before .before .before .before .before .before .before .before .before .if2 .left) (c .before .before .before .before .before .before .before .before .offset-at .result) (c .before .before .before .before .before .before .before .value-at .result) (c .before .before .before .before .before .before .before .before .offset-at .ensures) (c .before .before .before .before .before .before .before .value-at .ensures) (omega arith) (s + n - s) (omega arith) _ (c .before .before .text .ensures)
+returns-5 c =
+    let a = c .before .before .before .before .before .before .before .before .before .before .before .before .before .before .args in
+    text-good (now (a .rows)) (now (a .text)) (a .self) (c .before .before .before .before .before .before .before .before .before .before .if1 .left) _ (c .before .before .before .before .before .before .before .before .before .is-row .ensures) (c .before .before .before .before .before .before .before .before .if2 .left) _ _ (c .before .before .before .before .before .before .before .offset-at .ensures) (c .before .before .before .before .before .before .value-at .ensures) _ (c .before .before .before .before .before .stays .ensures) (c .before .before .before .before .if3 .left) _ (c .before .before .is-utf8 .ensures) _ (c .before .if4 .left) (c .past .ensures)
 
 pub str-spec : {M : Type 1} → statement M
 str-spec =
@@ -88,15 +98,16 @@ str-spec =
     cast-start
     value-at-requires
     cast-size
+    stays-requires
     spoiled-requires
     returns-3
-    sub-if4
+    add-end
+    sub-is-utf8
+    part-is-utf8-start
+    part-is-utf8-end
+    is-utf8-requires
     spoiled-requires-2
     returns-4
-    add-end
-    sub-text
-    part-text-start
-    part-text-end
-    text-requires
-    same-length
+    add-past
+    past-requires
     returns-5)

@@ -1,0 +1,198 @@
+//! The metadata writer on records of some 16 MiB: the bytes that it writes, then its speed beside that of copying these bytes and
+//! checking their texts. Built and run by `compare/write [SEED]`.
+mod common;
+
+use common::{median, Random};
+use std::hint::black_box;
+use std::time::Instant;
+
+extern "C" {
+    fn pgrxsc_is_text(bytes: *const u8, len: usize) -> bool;
+    fn pgrxsc_write_metadata(
+        rows: *const u32,
+        rows_len: usize,
+        text: *const u8,
+        text_len: usize,
+        dest: *mut u8,
+        dest_len: usize,
+        answer: *mut u64,
+    );
+}
+
+const LIMIT: usize = 16_777_216;
+
+const TAG: u32 = 2;
+const FLAG: u32 = 3;
+const NUMBER: u32 = 4;
+const COUNT: u32 = 5;
+const TEXT: u32 = 6;
+
+/// A record: its rows, the texts that they speak of, and the bytes that document 01 gives it.
+#[derive(Default)]
+struct Record {
+    rows: Vec<u32>,
+    text: Vec<u8>,
+    bytes: Vec<u8>,
+    texts: Vec<(usize, usize)>,
+}
+
+impl Record {
+    /// A record without a resolution, of a Skip as argument and the return value that follows.
+    fn new() -> Self {
+        let mut record = Record::default();
+        record.byte(FLAG, 0);
+        record.byte(TAG, 1);
+        record.byte(TAG, 5);
+        record.byte(TAG, 1);
+        record
+    }
+
+    /// A record that returns a table of `count` columns.
+    fn table(count: usize) -> Self {
+        let mut record = Record::new();
+        record.byte(TAG, 3);
+        record.four(COUNT, count as u32);
+        record
+    }
+
+    fn byte(&mut self, sort: u32, value: u8) {
+        self.rows.extend([sort, 0, value.into()]);
+        self.bytes.push(value);
+    }
+
+    fn four(&mut self, sort: u32, value: u32) {
+        self.rows.extend([sort, 0, value]);
+        self.bytes.extend(value.to_le_bytes());
+    }
+
+    /// A mapping As with a text.
+    fn sql_as(&mut self, text: &[u8]) {
+        self.byte(TAG, 1);
+        self.rows.extend([TEXT, self.text.len() as u32, text.len() as u32]);
+        self.bytes.extend((text.len() as u32).to_le_bytes());
+        self.bytes.extend(text);
+        self.texts.push((self.text.len(), text.len()));
+        self.text.extend(text);
+    }
+
+    fn write(&self, dest: &mut [u8]) -> [u64; 4] {
+        let mut answer = [0; 4];
+        unsafe {
+            pgrxsc_write_metadata(
+                self.rows.as_ptr(),
+                self.rows.len(),
+                self.text.as_ptr(),
+                self.text.len(),
+                dest.as_mut_ptr(),
+                dest.len(),
+                answer.as_mut_ptr(),
+            )
+        }
+        answer
+    }
+
+    fn check(&self, check: fn(&[u8]) -> bool) -> bool {
+        self.texts.iter().all(|&(at, len)| check(&self.text[at..at + len]))
+    }
+}
+
+fn ours(text: &[u8]) -> bool {
+    unsafe { pgrxsc_is_text(text.as_ptr(), text.len()) }
+}
+
+fn std(text: &[u8]) -> bool {
+    std::str::from_utf8(text).is_ok()
+}
+
+/// A record that returns one text.
+fn one(text: Vec<u8>) -> Record {
+    let mut record = Record::new();
+    record.byte(TAG, 1);
+    record.sql_as(&text);
+    record
+}
+
+/// A table of as many columns as fit, each of so many bytes and made by `column`.
+fn columns(size: usize, mut column: impl FnMut(&mut Record)) -> Record {
+    let count = (LIMIT - 9) / size;
+    let mut record = Record::table(count);
+    (0..count).for_each(|_| column(&mut record));
+    record
+}
+
+fn milliseconds(work: impl FnOnce()) -> f64 {
+    let start = Instant::now();
+    work();
+    start.elapsed().as_secs_f64() * 1e3
+}
+
+/// The bytes that are written, and those behind them; then the times by turns: the medians of 31 turns, and of the share in each.
+fn race(name: &str, record: Record) {
+    let len = record.bytes.len();
+    let mut dest = vec![0xaa; LIMIT + 16];
+    assert_eq!(record.write(&mut dest), [0, 0, len as u64, 0], "{name}: the answer");
+    assert!(dest[..len] == record.bytes, "{name}: the bytes");
+    assert!(dest[len..].iter().all(|&byte| byte == 0xaa), "{name}: the bytes behind");
+
+    let mut copy = vec![1; LIMIT + 16];
+    let mut times = [const { Vec::new() }; 5];
+    for _ in 0..31 {
+        times[0].push(milliseconds(|| assert_eq!(record.write(&mut dest)[0], 0)));
+        times[1].push(milliseconds(|| black_box(&mut copy)[..len].copy_from_slice(black_box(&record.bytes))));
+        times[2].push(milliseconds(|| assert!(record.check(ours))));
+        times[3].push(milliseconds(|| assert!(record.check(std))));
+        times[4].push(milliseconds(|| {
+            for _ in 0..2 {
+                black_box(black_box(&record.rows).iter().fold(0, |sum: u32, &n| sum ^ n));
+            }
+        }));
+    }
+    let share = |turn: usize| (times[1][turn] + times[2][turn].min(times[3][turn])) / times[0][turn];
+    let share = median((0..31).map(share).collect());
+    let [write, copy, our_check, std_check, rows] = times.map(median);
+    println!(
+        "{name:32} {:9} {write:8.2} {copy:8.2} {our_check:8.2} {std_check:8.2} {rows:8.2} {share:8.2}",
+        record.rows.len() / 3
+    );
+}
+
+fn main() {
+    let seed = std::env::args().nth(1).map_or(3629, |seed| seed.parse().expect("a number as seed"));
+    let mut random = Random(seed | 1);
+    println!("Milliseconds. The share: of the speed of copying and of the faster check, which is to be 0.5 or more.\n");
+    println!(
+        "{:32} {:>9} {:>8} {:>8} {:>8} {:>8} {:>8} {:>8}",
+        "a record of", "rows", "write", "copy", "check", "std's", "rows x 2", "share"
+    );
+    race("one text of ASCII", one(random.text(LIMIT - 10, &[1])));
+    let mut long = random.text(LIMIT - 12, &[3]);
+    long.truncate((LIMIT - 12) / 3 * 3);
+    race("one text of 3 bytes each", one(long));
+    for n in [4096, 256, 64, 32, 24, 20, 16, 12, 8, 4, 0] {
+        let text = random.text(n, &[1]);
+        race(&format!("texts of {n} bytes, ASCII"), columns(5 + n, |record| record.sql_as(&text)));
+    }
+    let mut lengths = Vec::new();
+    let mut total = 9;
+    while total + 35 <= LIMIT {
+        let n = 4 + random.below(27);
+        total += 5 + n;
+        lengths.push(n);
+    }
+    let mut mixed = Record::table(lengths.len());
+    lengths.iter().for_each(|&n| mixed.sql_as(&random.text(n, &[1])));
+    race("texts of 4 to 30 bytes, ASCII", mixed);
+    let text = random.text(24, &[3]);
+    race("texts of 24 bytes, 3 bytes each", columns(5 + 24, |record| record.sql_as(&text)));
+    race(
+        "Numeric alone",
+        columns(11, |record| {
+            record.byte(TAG, 3);
+            record.byte(FLAG, 1);
+            record.four(NUMBER, 10);
+            record.byte(FLAG, 1);
+            record.four(NUMBER, 2);
+        }),
+    );
+    race("Skip alone", columns(1, |record| record.byte(TAG, 5)));
+}

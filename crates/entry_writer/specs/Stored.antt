@@ -1,4 +1,5 @@
--- What is stored from rows that spell a value, one after the other: the layout plays no part in it.
+-- What is stored from rows, one after the other, in which the layout plays no part. A writing promises `write` and not this:
+-- `Stored-written` says that the two agree where a writing is accepted, and nothing is stored otherwise.
 use Prim.Native.Nat.{ℕ, zero, suc, _+_, _%_}
 use mathlib.Core.Bool.{cond}
 use mathlib.Core.List.{List, [], _∷_, _++_}

@@ -1,5 +1,5 @@
--- What goes through a layout one leaf after the other, with a state that it hands on: a reading's cursor with its table, a
--- writer with its destination.
+-- What goes through a layout one leaf after the other, with a state that it hands on: a reading's cursor with its table, or a
+-- writer.
 use Prim.Native.Nat.{ℕ}
 use mathlib.Core.List.{List}
 use Rattle.layout.specs.Layout.{Sort, Leaf, Fault, Verdict, fine, wrong, Layout, nothing, one, text, _then_, case, check}

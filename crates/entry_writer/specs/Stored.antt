@@ -10,7 +10,8 @@ use Rattle.layout.specs.Answers.{wholeRows}
 use Rattle.paste.specs.Pasted.{pasted}
 use Rattle.entry_writer.specs.Rows.{lentAt, staysAt}
 
--- By the sort of a row: up to 3, a kind, a tag or a flag; up to 5, a number or a count; or a text
+-- By the sort of a row: up to 3, a kind, a tag or a flag; up to 5, a number or a count; or a text. Document 01 has no sort 0 and
+-- none above 6: that such a row counts with its neighbour is how `store` goes on, and a writing refuses it with 14 before
 abbrev pub bySort : {A : Type 0} → (rows : List ℕ) → (row : ℕ) → (byte number text : A) → A
 bySort rows i a b c = cond (leb (sortAt rows i) 3) a (cond (leb (sortAt rows i) 5) b c)
 

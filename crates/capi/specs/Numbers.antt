@@ -1,9 +1,30 @@
--- How an answer is told in four numbers: the refusal's number and place, or 0 and 0; then what is answered.
+-- How an answer is told in four numbers: the refusal's number and place, or 0 and 0; then what is answered, or 0 and 0.
 use Prim.Native.Nat.{ℕ}
 use mathlib.Core.List.{List, [], _∷_}
-use Rattle.length.specs.Length.{Length, counted, refused}
+use Rattle.layout.specs.Answers.{Answer, accepted, refused}
+use Rattle.length.specs.Length as length
+use Rattle.paths.specs.Paths as paths
+
+-- A refusal
+abbrev pub refusalNumbers : (number place : ℕ) → List ℕ
+refusalNumbers number place = number ∷ place ∷ 0 ∷ 0 ∷ []
+
+-- A reading: its entities and its rows
+abbrev pub answerNumbers : Answer → List ℕ
+answerNumbers (accepted entities rows) = 0 ∷ 0 ∷ entities ∷ rows ∷ []
+answerNumbers (refused number place) = refusalNumbers number place
 
 -- A written length: the third number
-abbrev pub lengthNumbers : Length → List ℕ
-lengthNumbers (counted n) = 0 ∷ 0 ∷ n ∷ 0 ∷ []
-lengthNumbers (refused number place) = number ∷ place ∷ 0 ∷ 0 ∷ []
+abbrev pub lengthNumbers : length.Length → List ℕ
+lengthNumbers (length.counted n) = 0 ∷ 0 ∷ n ∷ 0 ∷ []
+lengthNumbers (length.refused number place) = refusalNumbers number place
+
+-- A path report, whose pairs are returned beside the numbers
+abbrev pub reportNumbers : paths.Report → List ℕ
+reportNumbers (paths.counted pairs) = 0 ∷ 0 ∷ 0 ∷ 0 ∷ []
+reportNumbers (paths.refused number place) = refusalNumbers number place
+
+-- The pairs, 0 after a refusal
+abbrev pub pairsIn : paths.Report → ℕ
+pairsIn (paths.counted pairs) = pairs
+pairsIn (paths.refused number place) = 0

@@ -1,20 +1,54 @@
 // The functions that programs in other languages call. Each hands its work on and adds nothing but the packing of the answer:
 // four numbers, of which the first two are a refusal's number and place, or 0 and 0.
+use leaf::Answer;
 use length::Length;
+use paths::PathReport;
 ghost use mathlib.Core.Path.{_≡_};
 ghost use lib.ListN.{length};
 ghost use Rattle.text.specs.Walk.{utf8};
-ghost use Rattle.layout.specs.Entities.{SqlMapping, FunctionMetadataType};
+ghost use Rattle.layout.specs.Entities.{Entity, SqlMapping, FunctionMetadataType};
+ghost use Rattle.layout.specs.Alone.{readingAlone};
+ghost use Rattle.leaf.specs.Finish.{answerOf};
+ghost use Rattle.section.specs.Section.{reading};
+ghost use Rattle.paths.specs.Paths.{report, reportOf};
 ghost use Rattle.length.specs.Length.{lengthOf};
 ghost use Rattle.entry_writer.specs.Writing.{write, lengthIn, written};
-ghost use Rattle.capi.specs.Numbers.{lengthNumbers};
+ghost use Rattle.capi.specs.Numbers.{answerNumbers, lengthNumbers, reportNumbers, pairsIn};
 
-// Whether the bytes are UTF-8 by RFC 3629.
+// Reads a whole section. The third number is that of entities, the fourth that of rows.
 #[no_mangle]
-pub extern "C" fn pgrxsc_is_text(bytes: &[u8]) -> bool
-    ensures { λ r. ⌜ r ≡ utf8 (now (bytes .entry)) ⌝ }
+pub extern "C" fn pgrxsc_read_section(bytes: &[u8], table: &mut [u32], answer: &mut [u64; 4])
+    ensures { λ r. ⌜ now (answer .exit) ≡ answerNumbers (reading (now (bytes .entry)) (now (table .entry)) .answer) ⌝ }
+    ensures { λ r. ⌜ now (table .exit) ≡ reading (now (bytes .entry)) (now (table .entry)) .table ⌝ }
 {
-    text::is_utf8(bytes)
+    *answer = answer_numbers(section::decode_entities(bytes, table));
+}
+
+// The same for one payload alone.
+#[no_mangle]
+pub extern "C" fn pgrxsc_read_payload(bytes: &[u8], table: &mut [u32], answer: &mut [u64; 4])
+    ensures { λ r. ⌜ now (answer .exit) ≡ answerNumbers (readingAlone Entity 1 (now (bytes .entry)) (now (table .entry)) .answer) ⌝ }
+    ensures { λ r. ⌜ now (table .exit) ≡ readingAlone Entity 1 (now (bytes .entry)) (now (table .entry)) .table ⌝ }
+{
+    *answer = answer_numbers(entity::decode_entity(bytes, table));
+}
+
+// The same for one metadata record alone.
+#[no_mangle]
+pub extern "C" fn pgrxsc_read_metadata(bytes: &[u8], table: &mut [u32], answer: &mut [u64; 4])
+    ensures { λ r. ⌜ now (answer .exit) ≡ answerNumbers (readingAlone FunctionMetadataType 0 (now (bytes .entry)) (now (table .entry)) .answer) ⌝ }
+    ensures { λ r. ⌜ now (table .exit) ≡ readingAlone FunctionMetadataType 0 (now (bytes .entry)) (now (table .entry)) .table ⌝ }
+{
+    *answer = answer_numbers(metadata::decode_function_metadata_type(bytes, table));
+}
+
+// The same for one mapping alone.
+#[no_mangle]
+pub extern "C" fn pgrxsc_read_mapping(bytes: &[u8], table: &mut [u32], answer: &mut [u64; 4])
+    ensures { λ r. ⌜ now (answer .exit) ≡ answerNumbers (readingAlone SqlMapping 0 (now (bytes .entry)) (now (table .entry)) .answer) ⌝ }
+    ensures { λ r. ⌜ now (table .exit) ≡ readingAlone SqlMapping 0 (now (bytes .entry)) (now (table .entry)) .table ⌝ }
+{
+    *answer = answer_numbers(metadata::decode_sql_mapping(bytes, table));
 }
 
 // Writes a metadata record, from rows and lent text bytes, to the start of dest. The third number is its length.
@@ -45,6 +79,35 @@ pub extern "C" fn pgrxsc_write_mapping(
     *answer = length_numbers(writer::encode_sql_mapping(rows, text, dest));
 }
 
+// The number of pairs of entities with the same full_path.
+#[no_mangle]
+pub extern "C" fn pgrxsc_path_pairs(bytes: &[u8], answer: &mut [u64; 4]) -> u64
+    ensures { λ r. ⌜ r ≡ pairsIn (report (now (bytes .entry))) ⌝ }
+    ensures { λ r. ⌜ now (answer .exit) ≡ reportNumbers (report (now (bytes .entry))) ⌝ }
+{
+    let report = paths::path_report(bytes);
+    *answer = report_numbers(report);
+    pairs_in(report)
+}
+
+// Whether the bytes are UTF-8 by RFC 3629.
+#[no_mangle]
+pub extern "C" fn pgrxsc_is_text(bytes: &[u8]) -> bool
+    ensures { λ r. ⌜ r ≡ utf8 (now (bytes .entry)) ⌝ }
+{
+    text::is_utf8(bytes)
+}
+
+// What a reading answers, as numbers.
+fn answer_numbers(answer: Answer) -> [u64; 4]
+    ensures { λ r. ⌜ r ≡ answerNumbers (answerOf answer) ⌝ }
+{
+    match answer {
+        Answer::Accepted { entities, rows } => [0, 0, entities as u64, rows as u64],
+        Answer::Refused { number, place } => [number as u64, place as u64, 0, 0],
+    }
+}
+
 // A length, as an answer.
 fn length_numbers(length: Length) -> [u64; 4]
     ensures { λ r. ⌜ r ≡ lengthNumbers (lengthOf length) ⌝ }
@@ -52,5 +115,28 @@ fn length_numbers(length: Length) -> [u64; 4]
     match length {
         Length::Bytes { count } => [0, 0, count as u64, 0],
         Length::Refused { number, place } => [number as u64, place as u64, 0, 0],
+    }
+}
+
+// A path report, as numbers.
+fn report_numbers(report: PathReport) -> [u64; 4]
+    ensures { λ r. ⌜ r ≡ reportNumbers (reportOf report) ⌝ }
+{
+    match report {
+        PathReport::Counted { pairs: _ } => [0, 0, 0, 0],
+        PathReport::Refused { number, place } => [number as u64, place as u64, 0, 0],
+    }
+}
+
+// The pairs of a path report, 0 after a refusal.
+fn pairs_in(report: PathReport) -> u64
+    ensures { λ r. ⌜ r ≡ pairsIn (reportOf report) ⌝ }
+{
+    match report {
+        PathReport::Counted { pairs } => pairs,
+        PathReport::Refused {
+            number: _,
+            place: _,
+        } => 0,
     }
 }

@@ -1,0 +1,21 @@
+-- The answer of the reading, in numbers.
+use Rattle.capi.proofs.Numbers.{told}
+use borrow.Author.Needs.{needs}
+use Rattle.capi.proofs.pgrxsc_read_section.Statement.{statement}
+use Rattle.capi.proofs.pgrxsc_read_section.Tie as tie
+
+decode-entities-requires : tie.Need-decode-entities-requires
+decode-entities-requires c κs = tt
+
+answer-numbers-requires : tie.Need-answer-numbers-requires
+answer-numbers-requires c κs = tt
+
+same-length : tie.Need-same-length
+same-length c = search needs
+
+returns : tie.Need-returns
+returns c = told _ (c .before .before .before .decode-entities .result) _ _ (c .answer-numbers .ensures) (c .before .before .before .decode-entities .ensures .0)
+
+pub pgrxsc-read-section-spec : {M : Type 1} → statement M
+pgrxsc-read-section-spec =
+    tie.close (tie.spec decode-entities-requires answer-numbers-requires same-length returns)

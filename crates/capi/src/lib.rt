@@ -2,18 +2,24 @@
 // four numbers, of which the first two are a refusal's number and place, or 0 and 0.
 use leaf::Answer;
 use length::Length;
+use parts::Row;
+use parts::SqlPlace;
 use paths::PathReport;
 ghost use mathlib.Core.Path.{_≡_};
+ghost use Prim.Native.Nat.{_≤_};
 ghost use lib.ListN.{length};
 ghost use Rattle.text.specs.Walk.{utf8};
 ghost use Rattle.layout.specs.Entities.{Entity, SqlMapping, FunctionMetadataType};
 ghost use Rattle.layout.specs.Alone.{readingAlone};
 ghost use Rattle.leaf.specs.Finish.{answerOf};
 ghost use Rattle.section.specs.Section.{reading};
+ghost use Rattle.parts.specs.Parts.{rowText, sqlNameIn};
+ghost use Rattle.parts.specs.SqlText.{sqlText, filled, stands};
 ghost use Rattle.paths.specs.Paths.{report, reportOf};
 ghost use Rattle.length.specs.Length.{lengthOf};
 ghost use Rattle.entry_writer.specs.Writing.{write, lengthIn, written};
-ghost use Rattle.capi.specs.Numbers.{answerNumbers, lengthNumbers, reportNumbers, pairsIn};
+ghost use Rattle.capi.specs.Numbers.{answerNumbers, partNumbers, placeNumbers, inBuffer, lengthNumbers, reportNumbers, pairsIn};
+ghost use Rattle.capi.specs.Private.{toldPart};
 
 // Reads a whole section. The third number is that of entities, the fourth that of rows.
 #[no_mangle]
@@ -49,6 +55,70 @@ pub extern "C" fn pgrxsc_read_mapping(bytes: &[u8], table: &mut [u32], answer: &
     ensures { λ r. ⌜ now (table .exit) ≡ readingAlone SqlMapping 0 (now (bytes .entry)) (now (table .entry)) .table ⌝ }
 {
     *answer = answer_numbers(metadata::decode_sql_mapping(bytes, table));
+}
+
+// The text of a row of three numbers. The third number is its start in the bytes, the fourth its length.
+#[no_mangle]
+pub extern "C" fn pgrxsc_row_text(
+    bytes: &[u8],
+    sort: u32,
+    offset: u32,
+    value: u32,
+    answer: &mut [u64; 4],
+)
+    ensures { λ r. ⌜ now (answer .exit) ≡ partNumbers (rowText (now (bytes .entry)) (record { sort = sort; offset = offset; value = value })) ⌝ }
+{
+    let row = Row {
+        sort,
+        offset,
+        value,
+    };
+    let mut number = 0;
+    let mut place = 0;
+    let text = parts::row_text(bytes, row, &mut number, &mut place);
+    let end = offset as u64 + value as u64;
+    *answer = part_numbers(number, place, end, text.len() as u64);
+}
+
+// The same for the SQL name of a declaration, from the row of the declaration's name.
+#[no_mangle]
+pub extern "C" fn pgrxsc_sql_name(
+    bytes: &[u8],
+    sort: u32,
+    offset: u32,
+    value: u32,
+    answer: &mut [u64; 4],
+)
+    ensures { λ r. ⌜ now (answer .exit) ≡ partNumbers (sqlNameIn (now (bytes .entry)) (rowText (now (bytes .entry)) (record { sort = sort; offset = offset; value = value }))) ⌝ }
+{
+    let row = Row {
+        sort,
+        offset,
+        value,
+    };
+    let mut number = 0;
+    let mut place = 0;
+    let name = parts::sql_name(bytes, row, &mut number, &mut place);
+    let end = offset as u64 + value as u64;
+    *answer = part_numbers(number, place, end, name.len() as u64);
+}
+
+// The SQL text of the mapping at an offset. The third number is its start, the fourth its length: in the buffer if 1 is returned,
+// else in the bytes.
+#[no_mangle]
+pub extern "C" fn pgrxsc_sql_text(
+    bytes: &[u8],
+    offset: u32,
+    buffer: &mut [u8],
+    answer: &mut [u64; 4],
+) -> u32
+    ensures { λ r. ⌜ r ≡ inBuffer (stands (sqlText (now (bytes .entry)) offset (length (now (buffer .entry))))) ⌝ }
+    ensures { λ r. ⌜ now (answer .exit) ≡ placeNumbers (stands (sqlText (now (bytes .entry)) offset (length (now (buffer .entry))))) ⌝ }
+    ensures { λ r. ⌜ now (buffer .exit) ≡ filled (now (buffer .entry)) (sqlText (now (bytes .entry)) offset (length (now (buffer .entry)))) ⌝ }
+{
+    let place = parts::place_sql_text(bytes, offset, buffer);
+    *answer = place_numbers(place);
+    in_buffer(place)
 }
 
 // Writes a metadata record, from rows and lent text bytes, to the start of dest. The third number is its length.
@@ -108,6 +178,42 @@ fn answer_numbers(answer: Answer) -> [u64; 4]
     }
 }
 
+// A part of the bytes, as an answer: its length and where it ends; or a refusal's number and place.
+fn part_numbers(number: u32, place: u32, end: u64, len: u64) -> [u64; 4]
+    requires { ⌜ len ≤ end ⌝ }
+    ensures { λ r. ⌜ r ≡ partNumbers (toldPart number place end len) ⌝ }
+{
+    if number != 0 {
+        return [number as u64, place as u64, 0, 0];
+    }
+    [0, 0, end - len, len]
+}
+
+// Where an SQL text stands, as an answer.
+fn place_numbers(place: SqlPlace) -> [u64; 4]
+    ensures { λ r. ⌜ r ≡ placeNumbers place ⌝ }
+{
+    match place {
+        SqlPlace::Section { start, len } => [0, 0, start as u64, len as u64],
+        SqlPlace::Buffer { len } => [0, 0, 0, len as u64],
+        SqlPlace::Refused { number, place } => [number as u64, place as u64, 0, 0],
+    }
+}
+
+// Whether it stands in the buffer: 1 or 0.
+fn in_buffer(place: SqlPlace) -> u32
+    ensures { λ r. ⌜ r ≡ inBuffer place ⌝ }
+{
+    match place {
+        SqlPlace::Section { start: _, len: _ } => 0,
+        SqlPlace::Buffer { len: _ } => 1,
+        SqlPlace::Refused {
+            number: _,
+            place: _,
+        } => 0,
+    }
+}
+
 // A length, as an answer.
 fn length_numbers(length: Length) -> [u64; 4]
     ensures { λ r. ⌜ r ≡ lengthNumbers (lengthOf length) ⌝ }
@@ -132,11 +238,8 @@ fn report_numbers(report: PathReport) -> [u64; 4]
 fn pairs_in(report: PathReport) -> u64
     ensures { λ r. ⌜ r ≡ pairsIn (reportOf report) ⌝ }
 {
-    match report {
-        PathReport::Counted { pairs } => pairs,
-        PathReport::Refused {
-            number: _,
-            place: _,
-        } => 0,
-    }
+    let PathReport::Counted { pairs } = report else {
+        return 0;
+    };
+    pairs
 }

@@ -5,11 +5,13 @@ use mathlib.Core.Bool.{Bool, true, false, cond, _&&_}
 use mathlib.Core.List.{List, [], _∷_}
 use mathlib.Core.Path.{_≡_, refl, sym, ap, _∙_}
 use lib.Dec.{eqb}
-use lib.ListN.{length, getD, drop, length-drop}
-use lib.Seq.{drop-cons}
-use Rattle.parts.specs.Parts.{colon, afterLast, sqlName}
-use Rattle.parts.specs.Theorems.{Name-end, Name-cases}
+use lib.ListN.{length, getD, take, drop, length-drop}
+use lib.Seq.{drop-cons, drop-at, drop-drop, take-add, length-take-le}
+use Rattle.layout.specs.Reading.{Outcome, ok, refuse}
+use Rattle.parts.specs.Parts.{between, rowText, partOf, colon, afterLast, sqlName, sqlNameIn}
+use Rattle.parts.specs.Theorems.{Name-end, Name-part, Name-cases}
 use Rattle.parts.specs.Private.{colonsAt}
+use Rattle.parts.proofs.RowText.{row-lies}
 
 -- Two bytes at a place, and what follows them
 two-at : (s : List ℕ) (i : ℕ) → i + 1 < length s → drop i s ≡ getD s i 0 ∷ getD s (i + 1) 0 ∷ drop (i + 2) s
@@ -62,6 +64,31 @@ end-after name last (x ∷ y ∷ rest) a b =
 pub name-end : Name-end
 unfolding sqlName
 name-end name = end-after name name name (0, omega arith, refl) (0, omega arith, refl)
+
+drop-take : (l : List ℕ) (i n : ℕ) → i ≤ n → i ≤ length l → drop i (take n l) ≡ take (n - i) (drop i l)
+drop-take l i n h k =
+    let e : n ≡ i + (n - i) = omega arith in
+    ap (λ (m : ℕ). drop i (take m l)) e ∙ ap (drop i) (take-add i (n - i) l) ∙ drop-at (take i l) (take (n - i) (drop i l)) i (length-take-le i l k)
+
+pub name-part : Name-part
+unfolding sqlName
+name-part s row = go (rowText s row) (row-lies s row)
+  where
+    go : (o : Outcome ℕ ℕ) → ((start end : ℕ) → o ≡ ok start end → (start ≤ end) × (end ≤ length s)) → partOf s (sqlNameIn s o) ≡ sqlName (partOf s o)
+    go (ok start end) lies =
+        let (h, k) = lies start end refl in
+        let name = between s start end in
+        let (i, j, e) = name-end name in
+        let l : length name ≡ end - start = length-take-le (end - start) (drop start s) (omega (arith, length-drop start s)) in
+        let m : length (sqlName name) ≡ length name - i = ap length e ∙ length-drop i name in
+        let a : end - length (sqlName name) ≡ start + i = omega arith in
+        let b : end - (start + i) ≡ end - start - i = omega arith in
+        ap (λ (x : ℕ). between s x end) a
+        ∙ ap (λ (x : ℕ). take x (drop (start + i) s)) b
+        ∙ ap (take (end - start - i)) (sym (drop-drop i start s))
+        ∙ sym (drop-take (drop start s) i (end - start) (omega arith) (omega (arith, length-drop start s)))
+        ∙ sym e
+    go (refuse n p) lies = refl
 
 pub name-cases : Name-cases
 unfolding sqlName

@@ -25,8 +25,11 @@ use Rattle.leaf.proofs.Reading.{arriveAll-refusal, moved-of, stops-of, run-read
 use Rattle.parts.specs.declared.Found.{Found}
 use Rattle.parts.specs.declared.Found.the-variants.{Refused, Stored, Numeric as Numeric′}
 use Rattle.parts.specs.declared.OptionU32.{OptionU32}
+use Rattle.parts.specs.declared.SqlPlace.{SqlPlace}
+use Rattle.parts.specs.declared.SqlPlace.the-variants.{Section, Buffer, Refused as Refused′}
+use Rattle.parts.specs.Parts.{numberIn, placeIn}
 use Rattle.parts.specs.Numeric.{numericSize, optionOf}
-use Rattle.parts.specs.SqlText.{TextMapping, SqlText, stored, numeric, numberIf, textOfLeaves, sqlTextOf, sqlText}
+use Rattle.parts.specs.SqlText.{TextMapping, SqlText, stored, numeric, numberIf, textOfLeaves, sqlTextOf, sqlText, stands}
 use Rattle.parts.specs.Theorems.{As-part, Filled-part}
 use Rattle.parts.specs.Private.{outcomeOf, sizedFor, Within}
 use Rattle.parts.proofs.Places.{refused-within}
@@ -179,6 +182,22 @@ module _ (s : List ℕ) (at size : ℕ) (small : length s ≤ limit) (c : Cursor
         let (x₁, x₂, x₃, x₄, k) = numeric-leaves s u at ls end i h in
         let (v₁, v₂, v₃, v₄) = values at ls x₁ x₂ x₃ x₄ r k m in
         sized-right s at size (Numeric′ p q) (good-numeric s at size small ls end i (first s u at ls end i ∙ h) p q (hp ∙ rw (v₁, v₂)) (hq ∙ rw (v₃, v₄))) (λ x. x)
+
+-- The number and the place of a refusal, 0 where the text stands
+abbrev pub numberOf : SqlPlace → ℕ
+numberOf (Section start len) = 0
+numberOf (Buffer len) = 0
+numberOf (Refused′ n p) = n
+
+abbrev pub placeOf : SqlPlace → ℕ
+placeOf (Section start len) = 0
+placeOf (Buffer len) = 0
+placeOf (Refused′ n p) = p
+
+pub told : (o : Outcome ℕ SqlText) (r : SqlPlace) → r ≡ stands o → (numberOf r ≡ numberIn o) × (placeOf r ≡ placeIn o)
+told (ok (stored start) end) r e = (ap numberOf e, ap placeOf e)
+told (ok (numeric t) end) r e = (ap numberOf e, ap placeOf e)
+told (refuse n p) r e = (ap numberOf e, ap placeOf e)
 
 pub as-part : As-part
 as-part s small u at t end e buffer =

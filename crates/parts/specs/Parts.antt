@@ -50,3 +50,8 @@ afterLast last (x ∷ y ∷ rest) = cond (eqb x colon && eqb y colon) (afterLast
 -- The SQL name of a declaration, from its name: without `::` the whole name
 unfoldable pub sqlName : List ℕ → List ℕ
 sqlName name = afterLast name name
+
+-- The SQL name of a name that is a part of the bytes given, by its start and its end: it ends where the name does
+abbrev pub sqlNameIn : List ℕ → Outcome ℕ ℕ → Outcome ℕ ℕ
+sqlNameIn s (ok start end) = ok (end - length (sqlName (between s start end))) end
+sqlNameIn s (refuse n p) = refuse n p

@@ -1,5 +1,5 @@
 -- The SQL text of a mapping: document 01, "The reading: entities and rows", and refusals 1, 5 to 7, 9, 10 and 17.
-use Prim.Native.Nat.{ℕ, _+_}
+use Prim.Native.Nat.{ℕ, _+_, _-_}
 use mathlib.Core.Bool.{cond}
 use mathlib.Core.List.{List, [], _++_}
 use mathlib.Core.Option.{Option, none, some}
@@ -9,6 +9,8 @@ use Rattle.layout.specs.Layout.{Leaf, Layout, check}
 use Rattle.layout.specs.Entities.{SqlMapping, valueIn, asOrNumeric}
 use Rattle.layout.specs.Reading.{Outcome, ok, refuse, _>>=_, need, read}
 use Rattle.layout.specs.Alone.{limit}
+use Rattle.parts.specs.declared.SqlPlace.{SqlPlace}
+use Rattle.parts.specs.declared.SqlPlace.the-variants.{Section, Buffer, Refused}
 use Rattle.parts.specs.Parts.{between}
 use Rattle.parts.specs.Numeric.{numericText, numericSize}
 
@@ -53,3 +55,9 @@ abbrev pub filled : (buffer : List ℕ) → Outcome ℕ SqlText → List ℕ
 filled buffer (ok (stored start) end) = buffer
 filled buffer (ok (numeric text) end) = text ++ drop end buffer
 filled buffer (refuse n p) = buffer
+
+-- Where it stands, with its length; or the refusal
+abbrev pub stands : Outcome ℕ SqlText → SqlPlace
+stands (ok (stored start) end) = Section start (end - start)
+stands (ok (numeric text) end) = Buffer end
+stands (refuse n p) = Refused n p

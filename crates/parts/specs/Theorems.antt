@@ -11,7 +11,7 @@ use Rattle.layout.specs.Reading.{ok, read}
 use Rattle.layout.specs.Alone.{limit}
 use Rattle.layout.specs.Theorems.{Bytes}
 use Rattle.parts.specs.declared.Row.{Row}
-use Rattle.parts.specs.Parts.{rowText, partOf, sqlName}
+use Rattle.parts.specs.Parts.{rowText, partOf, sqlName, sqlNameIn}
 use Rattle.parts.specs.Numeric.{numericSize}
 use Rattle.parts.specs.SqlText.{numeric, sqlText, sqlPartOf, filled}
 
@@ -28,6 +28,10 @@ Row-part =
 -- The SQL name is the end of the name: `name-end` in SqlName.antt
 abbrev pub Name-end : Type 0
 Name-end = (name : List ℕ) → (start : ℕ) × (start ≤ length name) × (sqlName name ≡ drop start name)
+
+-- The part that the SQL name is: `name-part` in SqlName.antt
+abbrev pub Name-part : Type 0
+Name-part = (s : List ℕ) (row : Row) → partOf s (sqlNameIn s (rowText s row)) ≡ sqlName (partOf s (rowText s row))
 
 -- Document 01's names: `name-cases` in SqlName.antt
 abbrev pub Name-cases : Type 0

@@ -9,7 +9,7 @@ ghost use Rattle.leaf.specs.State.{start, seek};
 ghost use Rattle.paste.specs.Pasted.{pasted};
 ghost use Rattle.parts.specs.Parts.{rowText, partOf, numberIn, placeIn, sqlName};
 ghost use Rattle.parts.specs.Numeric.{numericText, numericSize, numericSql, optionOf};
-ghost use Rattle.parts.specs.SqlText.{numberIf, sqlText, sqlPartOf, filled};
+ghost use Rattle.parts.specs.SqlText.{numberIf, sqlText, sqlPartOf, filled, stands};
 ghost use Rattle.parts.specs.Private.{colonsAt, outcomeOf, sizedFor, Within};
 
 // The place of the value in a row.
@@ -171,7 +171,38 @@ fn put(out: &mut [u8], at: usize, text: &[u8]) -> usize
     at + text.len()
 }
 
-// Fills the start of a lent buffer with the SQL text of the mapping at an offset, if the mapping is Numeric.
+// Where the SQL text of a mapping stands: in the section, from a start on; at the start of the buffer; or nowhere, with the
+// refusal's number and place.
+pub enum SqlPlace {
+    Section { start: usize, len: usize },
+    Buffer { len: usize },
+    Refused { number: u32, place: u32 },
+}
+
+// Fills the start of a lent buffer with the SQL text of the mapping at an offset, if the mapping is Numeric, and says where the
+// SQL text stands.
+pub fn place_sql_text(section: &[u8], offset: u32, buffer: &mut [u8]) -> SqlPlace
+    ensures { λ r. ⌜ r ≡ stands (sqlText (now (section .entry)) offset (length (now (buffer .entry)))) ⌝ }
+    ensures { λ r. ⌜ now (buffer .exit) ≡ filled (now (buffer .entry)) (sqlText (now (section .entry)) offset (length (now (buffer .entry)))) ⌝ }
+{
+    let found = find_sql_text(section, offset, buffer.len());
+    match found {
+        Found::Refused(number, place) => SqlPlace::Refused { number, place },
+        Found::Stored(start, end) => SqlPlace::Section {
+            start,
+            len: end - start,
+        },
+        Found::Numeric(precision, scale) => {
+            let sql = numeric_sql_string(precision, scale);
+            let bytes = sql.bytes;
+            let len = sql.len;
+            paste::paste(buffer, 0, &bytes[..len]);
+            SqlPlace::Buffer { len }
+        }
+    }
+}
+
+// The same, with the refusal's number and place alone.
 pub fn fill_sql_text(
     section: &[u8],
     offset: u32,
@@ -185,19 +216,17 @@ pub fn fill_sql_text(
 {
     *number = 0;
     *place = 0;
-    let found = find_sql_text(section, offset, buffer.len());
+    let found = place_sql_text(section, offset, buffer);
     match found {
-        Found::Refused(n, p) => {
+        SqlPlace::Refused {
+            number: n,
+            place: p,
+        } => {
             *number = n;
             *place = p;
         }
-        Found::Stored(_, _) => {}
-        Found::Numeric(precision, scale) => {
-            let sql = numeric_sql_string(precision, scale);
-            let bytes = sql.bytes;
-            let len = sql.len;
-            paste::paste(buffer, 0, &bytes[..len]);
-        }
+        SqlPlace::Section { start: _, len: _ } => {}
+        SqlPlace::Buffer { len: _ } => {}
     }
 }
 

@@ -17,10 +17,10 @@ use Rattle.section.specs.Framing.{Parts, framing}
 use Rattle.section.specs.Answers.{framingOf, framingEnd}
 use Rattle.section.specs.Section.{readSection, reading}
 use Rattle.section.specs.Demand3.{Demand3}
-use Rattle.section.specs.Private.{Stage, Reads}
+use Rattle.section.specs.Private.{Stage, Reads, endOf}
 use Rattle.section.specs.declared.Framed.the-variants.{Whole, Refused}
 use Rattle.section.proofs.Demand3.{Numbered, number-of, numbered-boundaries, reading-meets}
-use Rattle.section.proofs.Entries.{endOf, clear-start, end-inside, answers}
+use Rattle.section.proofs.Entries.{walked-start, clear-from, end-inside, answers}
 use Rattle.section.specs.declared.Framed as declared
 
 -- Both clauses, from the first
@@ -35,7 +35,7 @@ module _ (s : List ℕ) (f : declared.Framed) (e : framingOf f ≡ framingEnd s)
   framing-refused n p k = sym e ∙ ap framingOf k
 
 pub framing-inside : (s : List ℕ) → Bytes s → (end : ℕ) → framingEnd s ≡ ok tt end → end ≤ length s
-framing-inside s u end q = end-inside s u 0 end (omega arith) (clear-start s end q) .1
+framing-inside s u end q = end-inside s u 0 end (omega arith) (clear-from s 0 (walked-start s) end q) .1
 
 module _ (s table : List ℕ) (r : Result) where
   -- 1
@@ -55,13 +55,13 @@ module _ (s table : List ℕ) (r : Result) where
             let b : l ≡ p = cc in
             (omega (arith, number-of h .0, a), rw (le-leb (length s) limit small, k, a, b))
 
-    -- 2 to 4
-    pub by-framing : (n p : ℕ) → framingEnd s ≡ refuse n p → (c d : Cursor) → c ≡ start → d ≡ refusedOnce n p c → r ≡ finished 0 s (state d table) → r ≡ reading s table
+    -- 2 to 4, whatever the walk has stored
+    pub by-framing : (stored : List ℕ) → length stored ≡ length table → (n p : ℕ) → framingEnd s ≡ refuse n p → (c d : Cursor) → c ≡ start → d ≡ refusedOnce n p c → r ≡ finished 0 s (state d stored) → r ≡ reading s table
     unfolding reading
-    by-framing n p q c d a b e =
+    by-framing stored l n p q c d a b e =
         let (some, k) = refused-section n p q in
         let w : d ≡ stopped n p start = rw (b, a) in
-        e ∙ ap (λ (x : Cursor). finished 0 s (state x table)) w ∙ finished-refused 0 s (state (stopped n p start) table) small (λ z. omega (arith, some, z)) ∙ rw k
+        e ∙ ap (λ (x : Cursor). finished 0 s (state x stored)) w ∙ finished-refused 0 s (state (stopped n p start) stored) small (λ z. omega (arith, some, z)) ∙ rw (k, l)
 
     -- 5 to 13, or acceptance
     pub by-entries : (end : ℕ) (g : Stage) → Reads table end g (readSection s) → r ≡ finished (g .entities) (take end s) (g .state) → r ≡ reading s table

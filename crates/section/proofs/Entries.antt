@@ -1,12 +1,13 @@
--- The two walks over a section: from boundary to boundary, and from entry to entry.
+-- The walk over a section: from boundary to boundary, and what is read on the way.
 use Prim.Native.Nat.{ℕ, _+_, _*_, _/_, _≤_, _<_}
 use native.Mathlib.Omega.{arith}
-use mathlib.Core.Bool.{Bool, true, false, cond}
+use mathlib.Core.Bool.{Bool, true, false, cond, _&&_}
 use mathlib.Core.List.{List, [], _∷_, _++_, append-assoc, append-nil}
+use mathlib.Core.Logic.{_⊎_, inl, inr}
 use mathlib.Core.Path.{_≡_, refl, sym, ap, subst, _∙_}
 use lib.Dec.{ltb, leb}
 use lib.ListN.{length, take, drop, length-append, length-drop}
-use lib.Seq.{length-take-le, take-add, drop-at}
+use lib.Seq.{length-take-le}
 use borrow.Author.Tests.{ltb-true, ltb-false, ne-eqb, leb-true, leb-false, le-leb, lt-leb, eq-eqb}
 use Rattle.layout.specs.Layout.{Leaf}
 use Rattle.layout.specs.Written.{bytes, rowWidth}
@@ -22,27 +23,18 @@ use Rattle.leaf.specs.State.{State, state, start, seek, lengthAt, refusedOnce, 
 use Rattle.leaf.specs.Run.{run}
 use Rattle.leaf.specs.Finish.{finished}
 use Rattle.leaf.specs.Theorems.{arriveAll, Follows}
-use Rattle.leaf.proofs.Leaves.{length-there}
+use Rattle.leaf.proofs.Leaves.{length-none, length-there}
 use Rattle.leaf.proofs.Table.{arriveAll-length, fills, shorts, stays-short}
 use Rattle.leaf.proofs.Reading.{arriveAll-refusal, moved-of, stops-of, run-read}
 use Rattle.leaf.proofs.Finish.{finished-refused, finished-told}
 use Rattle.section.specs.Derivation.{sentinelBytes, Placed, leafCount, rowsOf, givenOf}
-use Rattle.section.specs.Framing.{allZero, Part, Parts, framing}
+use Rattle.section.specs.Framing.{allZero, Part, Parts}
 use Rattle.section.specs.Answers.{framingEnd}
 use Rattle.section.specs.Section.{same, ended, readEntity, readPayload, readPayloads, readSection}
-use Rattle.section.specs.Private.{Stage, stage, seeks, closed, entered, pastEntry, arriveEntities, Reads, reads, stops}
+use Rattle.section.specs.Private.{Stage, stage, seeks, closed, entered, pastEntry, arriveEntities, Reads, reads, stops, framingFrom, endOf, Walked, entryEnd, Walks}
 use Rattle.section.specs.Refusals.{framed, Framable}
-use Rattle.section.proofs.Framing.{partAt, partsOf, partsBefore, framingFrom, framing-start, framed-as, from-pad, from-few, from-zero, from-long, from-entry, four-not-zero, entry-at}
+use Rattle.section.proofs.Framing.{partAt, partsOf, partsBefore, framing-start, framed-as, from-pad, from-few, from-zero, from-long, from-entry, four-not-zero, entry-at}
 use Rattle.section.proofs.Section.{bytes-take}
-
--- Where the framing ends
-abbrev pub endOf : Parts → Outcome ℕ (Unit {0})
-endOf g = g >>= λ parts end. ok tt end
-
--- The first walk has come to a boundary
-pub record Walked (s : List ℕ) (at : ℕ) : Type 0 where
-  pub inside : at ≤ length s
-  pub rest : framingEnd s ≡ endOf (framingFrom s at)
 
 pub walked-start : (s : List ℕ) → Walked s 0
 unfolding framingEnd
@@ -51,6 +43,12 @@ walked-start s = record { inside = omega arith; rest = rw (framing-start s) }
 end-before : (p : Part) (g : Parts) → endOf (partsBefore (p ∷ []) g) ≡ endOf g
 end-before p (ok ps end) = refl
 end-before p (refuse n q) = refl
+
+-- A whole entry of n bytes at a boundary
+pub record Next (s : List ℕ) (at n : ℕ) : Type 0 where
+  pub inside : at + 4 + n ≤ length s
+  pub frames : framingFrom s at ≡ partsBefore (partAt at n ∷ []) (framingFrom s (at + 4 + n))
+  pub walked : Walked s (at + 4 + n)
 
 module _ (s : List ℕ) (at : ℕ) (w : Walked s at) where
   -- b is what the test for zeros answers
@@ -65,19 +63,86 @@ module _ (s : List ℕ) (at : ℕ) (w : Walked s at) where
       pub ends-zero : (n : ℕ) → n ≡ lengthAt s at → at + 4 ≤ length s → n ≡ 0 → refuse 3 at ≡ framingEnd s
       ends-zero n e m l = sym (w .rest ∙ rw (from-zero s at (w .inside) (sym q ∙ k) m (sym (length-there s at m) ∙ sym e ∙ l)))
 
-  -- n is the length
-  module _ (u : Bytes s) (n : ℕ) (e : n ≡ lengthAt s at) (m : at + 4 ≤ length s) (l : 1 ≤ n) where
-    number : numberAt s at ≡ n
-    number = sym (length-there s at m) ∙ sym e
+      pub ends-long : (n : ℕ) → n ≡ lengthAt s at → at + 4 ≤ length s → 1 ≤ n → length s < at + 4 + n → refuse 4 at ≡ framingEnd s
+      ends-long n e m l j = sym (w .rest ∙ rw (from-long s at (w .inside) (sym q ∙ k) n (sym (length-there s at m) ∙ sym e) m l j))
 
-    not-zero : allZero (drop at s) ≡ false
-    not-zero = rw (four-sound s u at m) (four-not-zero (numberAt s at) (drop (at + 4) s) (rw number l) (number-small s u at m))
+  next-entry : Bytes s → (n : ℕ) → n ≡ lengthAt s at → 1 ≤ n → at + 4 + n ≤ length s → Next s at n
+  next-entry u n e l j =
+      let m : at + 4 ≤ length s = omega arith in
+      let k : numberAt s at ≡ n = sym (length-there s at m) ∙ sym e in
+      let z : allZero (drop at s) ≡ false = rw (four-sound s u at m) (four-not-zero (numberAt s at) (drop (at + 4) s) (rw k l) (number-small s u at m)) in
+      let f = from-entry s at (w .inside) z n k m l j in
+      record { inside = j; frames = f; walked = record { inside = j; rest = w .rest ∙ rw f (end-before (partAt at n) (framingFrom s (at + 4 + n))) } }
 
-    pub ends-long : length s < at + 4 + n → refuse 4 at ≡ framingEnd s
-    ends-long j = sym (w .rest ∙ rw (from-long s at (w .inside) not-zero n number m l j))
+-- A whole entry stands at a boundary, or none
+module _ (s : List ℕ) (at : ℕ) where
+  pub length-some : (lengthAt s at ≡ 0 → ⊥) → at + 4 ≤ length s
+  length-some h = go (leb (at + 4) (length s)) refl
+    where
+      go : (b : Bool) → leb (at + 4) (length s) ≡ b → at + 4 ≤ length s
+      go true e = leb-true (at + 4) (length s) e
+      go false e = absurd (h (length-none s at (leb-false (at + 4) (length s) e)))
 
-    pub walked-on : at + 4 + n ≤ length s → Walked s (at + 4 + n)
-    walked-on j = record { inside = j; rest = w .rest ∙ rw (from-entry s at (w .inside) not-zero n number m l j) (end-before (partAt at n) (framingFrom s (at + 4 + n))) }
+  pub entry-here : 1 ≤ lengthAt s at → at + 4 + lengthAt s at ≤ length s → entryEnd s at ≡ at + 4 + lengthAt s at
+  unfolding entryEnd
+  entry-here h k = rw (le-leb 1 (lengthAt s at) h, le-leb (at + 4 + lengthAt s at) (length s) k)
+
+  pub entry-zero : lengthAt s at ≡ 0 → entryEnd s at ≡ at
+  unfolding entryEnd
+  entry-zero h = rw h
+
+  pub entry-long : length s < at + 4 + lengthAt s at → entryEnd s at ≡ at
+  unfolding entryEnd
+  entry-long h = go (leb 1 (lengthAt s at))
+    where
+      go : (b : Bool) → cond (b && leb (at + 4 + lengthAt s at) (length s)) (at + 4 + lengthAt s at) at ≡ at
+      go true = rw (lt-leb (at + 4 + lengthAt s at) (length s) h)
+      go false = refl
+
+  -- By its end
+  record Whole : Type 0 where
+    some : 1 ≤ lengthAt s at
+    inside : at + 4 + lengthAt s at ≤ length s
+
+  whole-or-none : (entryEnd s at ≡ at) ⊎ Whole
+  whole-or-none = go (leb 1 (lengthAt s at)) (leb (at + 4 + lengthAt s at) (length s)) refl refl
+    where
+      go : (b c : Bool) → leb 1 (lengthAt s at) ≡ b → leb (at + 4 + lengthAt s at) (length s) ≡ c → (entryEnd s at ≡ at) ⊎ Whole
+      go true true e f = inr (record { some = leb-true 1 (lengthAt s at) e; inside = leb-true (at + 4 + lengthAt s at) (length s) f })
+      go true false e f = inl (entry-long (leb-false (at + 4 + lengthAt s at) (length s) f))
+      go false c e f = inl (entry-zero (omega (arith, leb-false 1 (lengthAt s at) e)))
+
+  pub none-here : entryEnd s at ≤ at → entryEnd s at ≡ at
+  none-here h = go whole-or-none
+    where
+      go : (entryEnd s at ≡ at) ⊎ Whole → entryEnd s at ≡ at
+      go (inl e) = e
+      go (inr w) = absurd (omega (arith, entry-here (w .some) (w .inside)))
+
+  pub whole-here : at < entryEnd s at → (entryEnd s at ≡ at + 4 + lengthAt s at) × (1 ≤ lengthAt s at) × (at + 4 + lengthAt s at ≤ length s)
+  whole-here h = go whole-or-none
+    where
+      go : (entryEnd s at ≡ at) ⊎ Whole → (entryEnd s at ≡ at + 4 + lengthAt s at) × (1 ≤ lengthAt s at) × (at + 4 + lengthAt s at ≤ length s)
+      go (inl e) = absurd (omega arith)
+      go (inr w) = (entry-here (w .some) (w .inside), w .some, w .inside)
+
+-- From a boundary to the next, by the end of its entry
+module _ (s : List ℕ) (u : Bytes s) (at : ℕ) (w : Walked s at) where
+  next-whole : at < entryEnd s at → Next s at (lengthAt s at)
+  next-whole h = next-entry s at w u (lengthAt s at) refl (whole-here s at h .1) (whole-here s at h .2)
+
+  pub end-walked : (end : ℕ) → end ≡ entryEnd s at → at < end → Walked s end
+  end-walked end q l =
+      let h : at < entryEnd s at = omega (arith, q) in
+      rw (q, whole-here s at h .0) (next-whole h .walked)
+
+-- No whole entry stands at a boundary where the length is too long
+pub none-long : (s : List ℕ) (at : ℕ) → entryEnd s at ≡ at → 1 ≤ lengthAt s at → length s < at + 4 + lengthAt s at
+none-long s at e h = go (leb (at + 4 + lengthAt s at) (length s)) refl
+  where
+    go : (b : Bool) → leb (at + 4 + lengthAt s at) (length s) ≡ b → length s < at + 4 + lengthAt s at
+    go true f = absurd (omega (arith, e, entry-here s at h (leb-true (at + 4 + lengthAt s at) (length s) f)))
+    go false f = leb-false (at + 4 + lengthAt s at) (length s) f
 
 -- The entities from a boundary on
 unfoldable pub readFrom : List ℕ → ℕ → Outcome ℕ (List Placed)
@@ -104,12 +169,11 @@ pub record Clear (s : List ℕ) (at end : ℕ) : Type 0 where
   pub parts : List Part
   pub frames : framingFrom s at ≡ ok parts end
 
-pub clear-start : (s : List ℕ) (end : ℕ) → framingEnd s ≡ ok tt end → Clear s 0 end
-unfolding framingEnd
-clear-start s end q = go (framing s) refl q
+pub clear-from : (s : List ℕ) (at : ℕ) → Walked s at → (end : ℕ) → framingEnd s ≡ ok tt end → Clear s at end
+clear-from s at w end q = go (framingFrom s at) refl (sym (w .rest) ∙ q)
   where
-    go : (g : Parts) → framing s ≡ g → endOf g ≡ ok tt end → Clear s 0 end
-    go (ok ps e) k w = let v : e ≡ end = cc in record { parts = ps; frames = sym (framing-start s) ∙ k ∙ rw v }
+    go : (g : Parts) → framingFrom s at ≡ g → endOf g ≡ ok tt end → Clear s at end
+    go (ok ps e) k w = let v : e ≡ end = cc in record { parts = ps; frames = k ∙ rw v }
     go (refuse n p) k w = let z : _≡_ {A = ℕ} 0 1 = cc in absurd (omega arith)
 
 pub end-inside : (s : List ℕ) → Bytes s → (at end : ℕ) → at ≤ length s → Clear s at end → (at ≤ end) × (end ≤ length s)
@@ -120,42 +184,31 @@ end-inside s u at end h c =
     go : (xs : List (List ℕ)) → drop at s ≡ framed xs ++ drop end s → end ≡ at + length (framed xs) → end ≤ length s
     go xs e n = omega (arith, ap length e, length-append (framed xs) (drop end s), length-drop at s)
 
-rest-clear : (s : List ℕ) (z end : ℕ) (p : Part) (ps : List Part) → partsBefore (p ∷ []) (framingFrom s z) ≡ ok ps end → Clear s z end
-rest-clear s z end p ps = go (framingFrom s z) refl
-  where
-    go : (g : Parts) → framingFrom s z ≡ g → partsBefore (p ∷ []) g ≡ ok ps end → Clear s z end
-    go (ok qs e) k w = let v : e ≡ end = cc in record { parts = qs; frames = k ∙ rw v }
-    go (refuse n q) k w = let v : _≡_ {A = ℕ} 0 1 = cc in absurd (omega arith)
-
--- An entry at a boundary before the padding
-record Next (s : List ℕ) (at end n : ℕ) : Type 0 where
-  some : 1 ≤ n
-  inside : at + 4 + n ≤ end
-  next : Clear s (at + 4 + n) end
-  reads : readFrom s at ≡ (readPayload s (partAt at n) >>= λ es m. before es (readFrom s (at + 4 + n)))
-
-reads-entry : (s : List ℕ) (at z end : ℕ) (p : Part) → framingFrom s at ≡ partsBefore (p ∷ []) (framingFrom s z) → Clear s z end → readFrom s at ≡ (readPayload s p >>= λ es m. before es (readFrom s z))
+-- The entities from the entry at a boundary on: if its payload is read, they stand before those behind it; if it is refused, and
+-- the framing is good, so is the section
+reads-on : (s : List ℕ) (at z : ℕ) (p : Part) → framingFrom s at ≡ partsBefore (p ∷ []) (framingFrom s z) → (es : List Placed) (m : ℕ) → readPayload s p ≡ ok es m → readFrom s at ≡ before es (readFrom s z)
 unfolding readFrom readPayloads
-reads-entry s at z end p q c = rw (q, c .frames)
-
-clear-entry : (s : List ℕ) → Bytes s → (at end : ℕ) → at ≤ length s → Clear s at end → at < end → Next s at end (lengthAt s at)
-clear-entry s u at end h c l = let f = all-ok (framed-as s u at h) (c .frames) in go (f .payloads) (f .span .framable) (f .span .there) (f .span .ends)
+reads-on s at z p q es m k = go (framingFrom s z) refl
   where
-    go : (xs : List (List ℕ)) → Framable xs → drop at s ≡ framed xs ++ drop end s → end ≡ at + length (framed xs) → Next s at end (lengthAt s at)
-    go [] f e n = absurd (omega arith)
-    go (x ∷ xs) f e n =
+    go : (g : Parts) → framingFrom s z ≡ g → readFrom s at ≡ before es (readFrom s z)
+    go (ok ps end) e = rw (q, e, k)
+    go (refuse n l) e = rw (q, e)
+
+reads-off : (s : List ℕ) (at z : ℕ) (p : Part) → framingFrom s at ≡ partsBefore (p ∷ []) (framingFrom s z) → (k l : ℕ) → readPayload s p ≡ refuse k l → (end : ℕ) → Clear s z end → readFrom s at ≡ refuse k l
+unfolding readFrom readPayloads
+reads-off s at z p q k l e end c = rw (q, c .frames, e)
+
+-- At the padding
+reads-end : (s : List ℕ) → Bytes s → (at end : ℕ) → at ≤ length s → Clear s at end → entryEnd s at ≡ at → (end ≡ at) × (readFrom s at ≡ ok [] end)
+unfolding readFrom readPayloads
+reads-end s u at end h c q = let f = all-ok (framed-as s u at h) (c .frames) in go (f .payloads) (f .span .framable) (f .parts) (f .span .there) (f .span .ends)
+  where
+    go : (xs : List (List ℕ)) → Framable xs → c .parts ≡ partsOf at xs → drop at s ≡ framed xs ++ drop end s → end ≡ at + length (framed xs) → (end ≡ at) × (readFrom s at ≡ ok [] end)
+    go [] f p e n = (omega arith, rw (c .frames, p))
+    go (x ∷ xs) f p e n =
         let i = entry-at s at x (framed xs ++ drop end s) h (f .0) (f .1) (simp append-assoc at e) in
         let m : lengthAt s at ≡ length x = length-there s at (omega (arith, i .inside)) ∙ i .number in
-        let k : Clear s (at + 4 + length x) end = rest-clear s (at + 4 + length x) end (partAt at (length x)) (c .parts) (sym (i .frames) ∙ c .frames) in
-        rw m (record { some = f .0; inside = omega (arith, length-append x (framed xs)); next = k; reads = reads-entry s at (at + 4 + length x) end (partAt at (length x)) (i .frames) k })
-
-clear-end : (s : List ℕ) → Bytes s → (end : ℕ) → end ≤ length s → Clear s end end → readFrom s end ≡ ok [] end
-unfolding readFrom readPayloads
-clear-end s u end h c = let f = all-ok (framed-as s u end h) (c .frames) in go (f .payloads) (f .span .framable) (f .parts) (f .span .ends)
-  where
-    go : (xs : List (List ℕ)) → Framable xs → c .parts ≡ partsOf end xs → end ≡ end + length (framed xs) → readFrom s end ≡ ok [] end
-    go [] f p n = rw (c .frames, p)
-    go (x ∷ xs) f p n = absurd (omega arith)
+        absurd (omega (arith, q, m, f .0, i .inside, entry-here s at (omega (arith, m, f .0)) (omega (arith, m, i .inside))))
 
 -- Entities that arrive
 arriveEntities-more : (es : List Placed) (e : Placed) (st : State) → arriveEntities (es ++ (e ∷ [])) st ≡ arriveAll (e .leaves) (seeks (e .at) (arriveEntities es st))
@@ -170,165 +223,167 @@ arriveEntities-length : (es : List Placed) (st : State) → length (arriveEntiti
 arriveEntities-length [] st = refl
 arriveEntities-length (e ∷ es) st = arriveEntities-length es (arriveAll (e .leaves) (seeks (e .at) st)) ∙ arriveAll-length (e .leaves) (seeks (e .at) st)
 
--- The second walk has come to a boundary
-pub record Come (s table : List ℕ) (end at : ℕ) (g : Stage) : Type 0 where
+-- The walk has come to a boundary
+pub record Come (s table : List ℕ) (at : ℕ) (g : Stage) : Type 0 where
   pub found : List Placed
   pub stands : g ≡ stage (seeks at (arriveEntities found (state start table))) (length found)
   pub rest : readSection s ≡ before found (readFrom s at)
-  pub clear : Clear s at end
-  pub inside : at ≤ end
+  pub walked : Walked s at
   pub few : length found ≤ at
 
-pub come-start : (s table : List ℕ) (end : ℕ) → length s ≤ limit → framingEnd s ≡ ok tt end → (g : Stage) → g ≡ stage (state start table) 0 → Come s table end 0 g
-come-start s table end h q g e =
-    record { found = []; stands = e; rest = section-from s h ∙ sym (before-none (readFrom s 0)); clear = clear-start s end q; inside = omega arith; few = omega arith }
+pub come-start : (s table : List ℕ) → length s ≤ limit → (g : Stage) → g ≡ stage (state start table) 0 → Come s table 0 g
+come-start s table h g e =
+    record { found = []; stands = e; rest = section-from s h ∙ sym (before-none (readFrom s 0)); walked = walked-start s; few = omega arith }
 
-pub come-length : (s table : List ℕ) (end at : ℕ) (g : Stage) → Come s table end at g → length (g .state .table) ≡ length table
-come-length s table end at g h = ap (λ (x : Stage). length (x .state .table)) (h .stands) ∙ arriveEntities-length (h .found) (state start table)
+pub come-length : (s table : List ℕ) (at : ℕ) (g : Stage) → Come s table at g → length (g .state .table) ≡ length table
+come-length s table at g h = ap (λ (x : Stage). length (x .state .table)) (h .stands) ∙ arriveEntities-length (h .found) (state start table)
 
--- Where an entry leads: to a refusal, or to the next boundary
-pub record Leads (s table : List ℕ) (end at : ℕ) (g : Stage) : Type 0 where
-  pub refuses : (g .state .cursor .refusal ≡ 0 → ⊥) → Reads table end g (readSection s)
-  pub goes : g .state .cursor .refusal ≡ 0 → Come s table end (g .state .cursor .at) g × (at < g .state .cursor .at)
+-- Where an entry leads that ends at a boundary: to a refusal, or to that boundary
+pub record Leads (s table : List ℕ) (end : ℕ) (g : Stage) : Type 0 where
+  pub refuses : (g .state .cursor .refusal ≡ 0 → ⊥) → Walks s table end g
+  pub goes : g .state .cursor .refusal ≡ 0 → Come s table end g
 
-leads-refused : (s table : List ℕ) (end at : ℕ) (g : Stage) (n p : ℕ) → g .state .cursor .refusal ≡ n → (n ≡ 0 → ⊥) → g .state .cursor .place ≡ p → length (g .state .table) ≡ length table → readSection s ≡ refuse n p → Leads s table end at g
-leads-refused s table end at g n p e z q l r = record { refuses = λ w. rw r (stops (e, z, q, l)); goes = λ w. absurd (z (sym e ∙ w)) }
-
-leads-on : (s table : List ℕ) (end at z : ℕ) (g : Stage) → g .state .cursor .refusal ≡ 0 → g .state .cursor .at ≡ z → at < z → Come s table end z g → Leads s table end at g
-leads-on s table end at z g e q l h = record { refuses = λ w. absurd (w e); goes = λ w. subst (λ (x : ℕ). Come s table end x g × (at < x)) (sym q) (h, l) }
-
-module _ (s table : List ℕ) (u : Bytes s) (small : length s ≤ limit) (end : ℕ) where
-  module _ (at : ℕ) (es : List Placed) (rest : readSection s ≡ before es (readFrom s at)) (n : ℕ) (x : Next s at end n) (inside : end ≤ length s) (few : length es ≤ at) where
+module _ (s table : List ℕ) (u : Bytes s) (small : length s ≤ limit) where
+  module _ (at : ℕ) (es : List Placed) (rest : readSection s ≡ before es (readFrom s at)) (n : ℕ) (x : Next s at n) (few : length es ≤ at) where
     abbrev st : State
     st = arriveEntities es (state start table)
 
-    z-inside : at + 4 + n ≤ length s
-    z-inside = omega (arith, x .inside)
+    abbrev z : ℕ
+    z = at + 4 + n
 
-    off : (k p : ℕ) → readPayload s (partAt at n) ≡ refuse k p → readSection s ≡ refuse k p
-    off k p q = rest ∙ rw (x .reads, q)
+    off : (k p : ℕ) → readPayload s (partAt at n) ≡ refuse k p → (end : ℕ) → framingEnd s ≡ ok tt end → readSection s ≡ refuse k p
+    off k p q end f = rest ∙ rw (reads-off s at z (partAt at n) (x .frames) k p q end (clear-from s z (x .walked) end f))
 
-    on : (fs : List Placed) (m : ℕ) → readPayload s (partAt at n) ≡ ok fs m → readSection s ≡ before (es ++ fs) (readFrom s (at + 4 + n))
-    on fs m q = rest ∙ rw (x .reads, q) (before-append es fs (readFrom s (at + 4 + n)))
+    on : (fs : List Placed) (m : ℕ) → readPayload s (partAt at n) ≡ ok fs m → readSection s ≡ before (es ++ fs) (readFrom s z)
+    on fs m q = rest ∙ ap (before es) (reads-on s at z (partAt at n) (x .frames) fs m q) ∙ before-append es fs (readFrom s z)
+
+    leads-refused : (g : Stage) (k p : ℕ) → g .state .cursor .refusal ≡ k → (k ≡ 0 → ⊥) → g .state .cursor .place ≡ p → length (g .state .table) ≡ length table → readPayload s (partAt at n) ≡ refuse k p → Leads s table z g
+    leads-refused g k p e i q l r = record {
+      refuses = λ w. record { walked = x .walked; kept = l; reads = λ end f. rw (off k p r end f) (stops (e, i, q, l)) };
+      goes = λ w. absurd (i (sym e ∙ w));
+    }
+
+    leads-on : (g : Stage) → g .state .cursor .refusal ≡ 0 → Come s table z g → Leads s table z g
+    leads-on g e h = record { refuses = λ w. absurd (w e); goes = λ w. h }
 
     -- The sentinel
-    is-sentinel : same (drop (at + 4) (take (at + 4 + n) s)) sentinelBytes ≡ true → readPayload s (partAt at n) ≡ ok [] (at + 4 + n)
+    is-sentinel : same (drop (at + 4) (take z s)) sentinelBytes ≡ true → readPayload s (partAt at n) ≡ ok [] z
     unfolding readPayload
     is-sentinel q = rw q
 
-    leads-sentinel : same (drop (at + 4) (take (at + 4 + n) s)) sentinelBytes ≡ true → Leads s table end at (stage (seeks (at + 4 + n) st) (length es))
+    leads-sentinel : same (drop (at + 4) (take z s)) sentinelBytes ≡ true → Leads s table z (stage (seeks z st) (length es))
     leads-sentinel q =
-        leads-on s table end at (at + 4 + n) (stage (seeks (at + 4 + n) st) (length es)) (arriveEntities-refusal es (state start table)) refl (omega arith)
-        (record { found = es; stands = refl; rest = on [] (at + 4 + n) (is-sentinel q) ∙ rw append-nil; clear = x .next; inside = x .inside; few = omega arith })
+        leads-on (stage (seeks z st) (length es)) (arriveEntities-refusal es (state start table))
+        (record { found = es; stands = refl; rest = on [] z (is-sentinel q) ∙ rw append-nil; walked = x .walked; few = omega arith })
 
     -- An entity
-    module _ (f : same (drop (at + 4) (take (at + 4 + n) s)) sentinelBytes ≡ false) where
+    module _ (f : same (drop (at + 4) (take z s)) sentinelBytes ≡ false) where
       abbrev r : State
-      r = run Entity (take (at + 4 + n) s) (seeks (at + 4) st)
+      r = run Entity (take z s) (seeks (at + 4) st)
 
       abbrev result : Stage
-      result = stage (state (closed (at + 4 + n) (r .cursor)) (r .table)) (length es + 1)
+      result = stage (state (closed z (r .cursor)) (r .table)) (length es + 1)
 
-      payload-read : (o : Outcome ℕ (List Leaf)) → read Entity (take (at + 4 + n) s) (at + 4) ≡ o
-          → readPayload s (partAt at n) ≡ (o >>= λ ls e. ended (partAt at n) ls e)
+      payload-read : (o : Outcome ℕ (List Leaf)) → read Entity (take z s) (at + 4) ≡ o → readPayload s (partAt at n) ≡ (o >>= λ ls e. ended (partAt at n) ls e)
       unfolding readPayload readEntity
       payload-read o q = rw (f, q)
 
-      taken : length (take (at + 4 + n) s) ≡ at + 4 + n
-      taken = length-take-le (at + 4 + n) s z-inside
+      taken : length (take z s) ≡ z
+      taken = length-take-le z s (x .inside)
 
-      follows : Follows (seeks (at + 4) st) r (read Entity (take (at + 4 + n) s) (at + 4))
-      follows = run-read (take (at + 4 + n) s) (omega (arith, taken, z-inside)) Entity (seeks (at + 4) st) (arriveEntities-refusal es (state start table))
+      follows : Follows (seeks (at + 4) st) r (read Entity (take z s) (at + 4))
+      follows = run-read (take z s) (omega (arith, taken, x .inside)) Entity (seeks (at + 4) st) (arriveEntities-refusal es (state start table))
 
-      closed-refused : (c : Cursor) → (c .refusal ≡ 0 → ⊥) → closed (at + 4 + n) c ≡ c
-      closed-refused c w = go (ltb (c .at) (at + 4 + n))
+      closed-refused : (c : Cursor) → (c .refusal ≡ 0 → ⊥) → closed z c ≡ c
+      closed-refused c w = go (ltb (c .at) z)
         where
           go : (b : Bool) → cond b (refusedOnce 12 (c .at) c) c ≡ c
           go true = rw (ne-eqb (c .refusal) 0 w)
           go false = refl
 
-      entity-refused : (k p : ℕ) → read Entity (take (at + 4 + n) s) (at + 4) ≡ refuse k p → Leads s table end at result
+      entity-refused : (k p : ℕ) → read Entity (take z s) (at + 4) ≡ refuse k p → Leads s table z result
       entity-refused k p q =
-          let (e, z, g, l) = stops-of (rw q at follows) in
-          let v : closed (at + 4 + n) (r .cursor) ≡ r .cursor = closed-refused (r .cursor) (λ w. z (sym e ∙ w)) in
-          leads-refused s table end at result k p (ap (λ (c : Cursor). c .refusal) v ∙ e) z (ap (λ (c : Cursor). c .place) v ∙ g) (l ∙ arriveEntities-length es (state start table))
-          (off k p (payload-read (refuse k p) q))
+          let (e, i, g, l) = stops-of (rw q at follows) in
+          let v : closed z (r .cursor) ≡ r .cursor = closed-refused (r .cursor) (λ w. i (sym e ∙ w)) in
+          leads-refused result k p (ap (λ (c : Cursor). c .refusal) v ∙ e) i (ap (λ (c : Cursor). c .place) v ∙ g) (l ∙ arriveEntities-length es (state start table))
+          (payload-read (refuse k p) q)
 
       -- The entity ends inside the payload
-      ends-inside : (ls : List Leaf) (m : ℕ) → read Entity (take (at + 4 + n) s) (at + 4) ≡ ok ls m → m ≤ at + 4 + n
+      ends-inside : (ls : List Leaf) (m : ℕ) → read Entity (take z s) (at + 4) ≡ ok ls m → m ≤ z
       ends-inside ls m q =
-          let (v, proper, same-leaves, stand) = read-sound Entity (take (at + 4 + n) s) (bytes-take (at + 4 + n) s u) (at + 4) ls m q in
-          omega (arith, stand .1, ap length (stand .0), length-append (bytes Entity v) (drop m (take (at + 4 + n) s)), length-drop (at + 4) (take (at + 4 + n) s), length-drop m (take (at + 4 + n) s), taken)
+          let (v, proper, same-leaves, stand) = read-sound Entity (take z s) (bytes-take z s u) (at + 4) ls m q in
+          omega (arith, stand .1, ap length (stand .0), length-append (bytes Entity v) (drop m (take z s)), length-drop (at + 4) (take z s), length-drop m (take z s), taken)
 
-      entity-read : (ls : List Leaf) (m : ℕ) (b : Bool) → ltb m (at + 4 + n) ≡ b → read Entity (take (at + 4 + n) s) (at + 4) ≡ ok ls m → Leads s table end at result
+      entity-read : (ls : List Leaf) (m : ℕ) (b : Bool) → ltb m z ≡ b → read Entity (take z s) (at + 4) ≡ ok ls m → Leads s table z result
       entity-read ls m true w q =
           let (e, g) = moved-of (rw q at follows) in
-          let z : r .cursor .refusal ≡ 0 = ap (λ (y : State). y .cursor .refusal) e ∙ arriveAll-refusal ls (seeks (at + 4) st) ∙ arriveEntities-refusal es (state start table) in
-          let v : closed (at + 4 + n) (r .cursor) ≡ stopped 12 m (r .cursor) = rw (g, w, eq-eqb _ _ z) in
-          leads-refused s table end at result 12 m (ap (λ (c : Cursor). c .refusal) v) (λ y. omega arith) (ap (λ (c : Cursor). c .place) v)
+          let i : r .cursor .refusal ≡ 0 = ap (λ (y : State). y .cursor .refusal) e ∙ arriveAll-refusal ls (seeks (at + 4) st) ∙ arriveEntities-refusal es (state start table) in
+          let v : closed z (r .cursor) ≡ stopped 12 m (r .cursor) = rw (g, w, eq-eqb _ _ i) in
+          leads-refused result 12 m (ap (λ (c : Cursor). c .refusal) v) (λ y. omega arith) (ap (λ (c : Cursor). c .place) v)
           (ap (λ (y : State). length (y .table)) e ∙ arriveAll-length ls (seeks (at + 4) st) ∙ arriveEntities-length es (state start table))
-          (off 12 m (payload-read (ok ls m) q ∙ rw (lt-leb (at + 4 + n) m (ltb-true m (at + 4 + n) w))))
+          (payload-read (ok ls m) q ∙ rw (lt-leb z m (ltb-true m z w)))
       entity-read ls m false w q =
           let (e, g) = moved-of (rw q at follows) in
-          let z : r .cursor .refusal ≡ 0 = ap (λ (y : State). y .cursor .refusal) e ∙ arriveAll-refusal ls (seeks (at + 4) st) ∙ arriveEntities-refusal es (state start table) in
-          let y : m ≡ at + 4 + n = omega (arith, ltb-false m (at + 4 + n) w, ends-inside ls m q) in
-          let v : closed (at + 4 + n) (r .cursor) ≡ r .cursor = rw (g, w) in
-          let i : Placed = record { at = at + 4; leaves = ls } in
-          let k : arriveEntities (es ++ (i ∷ [])) (state start table) ≡ r = arriveEntities-more es i (state start table) ∙ sym e in
-          let a : r .cursor .at ≡ at + 4 + n = g ∙ y in
-          let l : length (es ++ (i ∷ [])) ≡ length es + 1 = length-append es (i ∷ []) in
-          leads-on s table end at (at + 4 + n) result (ap (λ (c : Cursor). c .refusal) v ∙ z) (ap (λ (c : Cursor). c .at) v ∙ a) (omega arith)
+          let i : r .cursor .refusal ≡ 0 = ap (λ (y : State). y .cursor .refusal) e ∙ arriveAll-refusal ls (seeks (at + 4) st) ∙ arriveEntities-refusal es (state start table) in
+          let y : m ≡ z = omega (arith, ltb-false m z w, ends-inside ls m q) in
+          let v : closed z (r .cursor) ≡ r .cursor = rw (g, w) in
+          let j : Placed = record { at = at + 4; leaves = ls } in
+          let k : arriveEntities (es ++ (j ∷ [])) (state start table) ≡ r = arriveEntities-more es j (state start table) ∙ sym e in
+          let a : r .cursor .at ≡ z = g ∙ y in
+          let l : length (es ++ (j ∷ [])) ≡ length es + 1 = length-append es (j ∷ []) in
+          leads-on result (ap (λ (c : Cursor). c .refusal) v ∙ i)
           (record {
-            found = es ++ (i ∷ []);
+            found = es ++ (j ∷ []);
             stands =
                 ap (λ (c : Cursor). stage (state c (r .table)) (length es + 1)) v
                 ∙ ap (λ (b : ℕ). stage (seeks b r) (length es + 1)) a
-                ∙ sym (ap (λ (t : State). stage (seeks (at + 4 + n) t) (length (es ++ (i ∷ [])))) k ∙ ap (λ (b : ℕ). stage (seeks (at + 4 + n) r) b) l);
-            rest = on (i ∷ []) m (payload-read (ok ls m) q ∙ rw (le-leb (at + 4 + n) m (omega arith)));
-            clear = x .next;
-            inside = x .inside;
+                ∙ sym (ap (λ (t : State). stage (seeks z t) (length (es ++ (j ∷ [])))) k ∙ ap (λ (b : ℕ). stage (seeks z r) b) l);
+            rest = on (j ∷ []) m (payload-read (ok ls m) q ∙ rw (le-leb z m (omega arith)));
+            walked = x .walked;
             few = omega arith;
           })
 
-      leads-entity : (o : Outcome ℕ (List Leaf)) → read Entity (take (at + 4 + n) s) (at + 4) ≡ o → Leads s table end at result
-      leads-entity (ok ls m) q = entity-read ls m (ltb m (at + 4 + n)) refl q
+      leads-entity : (o : Outcome ℕ (List Leaf)) → read Entity (take z s) (at + 4) ≡ o → Leads s table z result
+      leads-entity (ok ls m) q = entity-read ls m (ltb m z) refl q
       leads-entity (refuse k p) q = entity-refused k p q
 
-    leads-entered : Leads s table end at (entered s (at + 4) (at + 4 + n) (stage (seeks at st) (length es)))
-    leads-entered = go (same (drop (at + 4) (take (at + 4 + n) s)) sentinelBytes) refl
+    leads-entered : Leads s table z (entered s (at + 4) z (stage (seeks at st) (length es)))
+    leads-entered = go (same (drop (at + 4) (take z s)) sentinelBytes) refl
       where
-        go : (b : Bool) → same (drop (at + 4) (take (at + 4 + n) s)) sentinelBytes ≡ b
-            → Leads s table end at (cond b (stage (seeks (at + 4 + n) st) (length es))
-            (stage (state (closed (at + 4 + n) (run Entity (take (at + 4 + n) s) (seeks (at + 4) st) .cursor)) (run Entity (take (at + 4 + n) s) (seeks (at + 4) st) .table)) (length es + 1)))
+        go : (b : Bool) → same (drop (at + 4) (take z s)) sentinelBytes ≡ b
+            → Leads s table z (cond b (stage (seeks z st) (length es))
+            (stage (state (closed z (run Entity (take z s) (seeks (at + 4) st) .cursor)) (run Entity (take z s) (seeks (at + 4) st) .table)) (length es + 1)))
         go true q = leads-sentinel q
-        go false q = leads-entity q (read Entity (take (at + 4 + n) s) (at + 4)) refl
+        go false q = leads-entity q (read Entity (take z s) (at + 4)) refl
 
-  module _ (q : framingEnd s ≡ ok tt end) (at : ℕ) (g : Stage) (h : Come s table end at g) where
-    ends : end ≤ length s
-    ends = end-inside s u 0 end (omega arith) (clear-start s end q) .1
+  module _ (at : ℕ) (g : Stage) (h : Come s table at g) (end : ℕ) (q : end ≡ entryEnd s at) where
+    stands-at : g .state .cursor .at ≡ at
+    stands-at = ap (λ (x : Stage). x .state .cursor .at) (h .stands)
 
     -- From one boundary to the next
     module _ (l : at < end) where
-      come-next : Next s at end (lengthAt s at)
-      come-next = clear-entry s u at end (omega (arith, ends, h .inside)) (h .clear) l
+      here : at < entryEnd s at
+      here = omega (arith, q)
 
       pub entry-fits : g .state .cursor .at + 4 + lengthAt s (g .state .cursor .at) ≤ length s
-      entry-fits = rw (ap (λ (x : Stage). x .state .cursor .at) (h .stands)) (omega (arith, come-next .inside, ends))
+      entry-fits = rw stands-at (whole-here s at here .2)
 
       pub few-entities : g .entities ≤ limit
-      few-entities = rw (ap (λ (x : Stage). x .entities) (h .stands)) (omega (arith, h .few, h .inside, ends, small))
+      few-entities = rw (ap (λ (x : Stage). x .entities) (h .stands)) (omega (arith, h .few, h .walked .inside, small))
 
-      pub leads : (r : Stage) → r ≡ pastEntry s g → Leads s table end at r
+      pub leads : (r : Stage) → r ≡ pastEntry s g → Leads s table end r
       unfolding pastEntry
-      leads r e = rw (e, h .stands) (leads-entered at (h .found) (h .rest) (lengthAt s at) come-next ends (h .few))
+      leads r e = rw (q, whole-here s at here .0, e, h .stands) (leads-entered at (h .found) (h .rest) (lengthAt s at) (next-whole s u at (h .walked) here) (h .few))
 
-    -- At the padding
-    pub come-end : end ≤ at → Reads table end g (readSection s)
-    come-end l =
-        let e : at ≡ end = omega (arith, h .inside) in
-        let k : readFrom s at ≡ ok [] at = rw e (clear-end s u end ends (subst (λ (x : ℕ). Clear s x end) e (h .clear))) in
-        let r : readSection s ≡ ok (h .found) at = h .rest ∙ rw (k, append-nil) in
-        rw r (reads (h .stands ∙ ap (λ (x : ℕ). stage (seeks x (arriveEntities (h .found) (state start table))) (length (h .found))) e))
+    -- Where no whole entry stands
+    pub come-end : end ≤ at → Walks s table at g
+    come-end l = record { walked = h .walked; kept = come-length s table at g h; reads = all-read }
+      where
+        all-read : (end : ℕ) → framingEnd s ≡ ok tt end → Reads table end g (readSection s)
+        all-read end f =
+            let (e, k) = reads-end s u at end (h .walked .inside) (clear-from s at (h .walked) end f) (none-here s at (omega (arith, q))) in
+            let r : readSection s ≡ ok (h .found) end = h .rest ∙ rw (k, append-nil) in
+            rw r (reads (h .stands ∙ ap (λ (x : ℕ). stage (seeks x (arriveEntities (h .found) (state start table))) (length (h .found))) (sym e)))
 
 -- Rows of entities in the table
 record Filled (es : List Placed) (st r : State) : Type 0 where
@@ -363,7 +418,7 @@ entities-short (e ∷ es) st h k = go (leb (st .cursor .rows + length (e .leaves
         i (omega (arith, f .rows, l)) (omega (arith, f .rows, l))
     go false q i = stays es (arriveAll (e .leaves) (seeks (e .at) st)) (shorts (e .leaves) (seeks (e .at) st) (leb-false _ _ q) k)
 
--- The answer at the end of the second walk
+-- The answer at the end of the walk
 module _ (s table : List ℕ) (small : length s ≤ limit) (end : ℕ) (ends : length s ≤ end) where
   pub answers : (g : Stage) (o : Outcome ℕ (List Placed)) → Reads table end g o → finished (g .entities) s (g .state) ≡ tell (o >>= λ es e. ok (givenOf es) e) table
   answers g o (reads {es = es} {at = at} e) =
@@ -373,18 +428,15 @@ module _ (s table : List ℕ) (small : length s ≤ limit) (end : ℕ) (ends : l
       (λ k. let f = entities-fill es st (omega arith) in (f .rows ∙ omega arith, f .short, f .front)) (λ k. entities-short es st (omega arith) (omega arith))
   answers g o (stops h) = finished-refused (g .entities) s (g .state) small (λ w. h .1 (sym (h .0) ∙ w)) ∙ rw (h .0, h .2, h .3)
 
--- One entry, from what the code's calls answer: n is its length, x what the part of its payload takes
-part-of : (s : List ℕ) (a n x : ℕ) → a + n ≤ length s → x ≡ n → drop a (take (a + n) s) ≡ take x (drop a s)
-part-of s a n x h q = rw (take-add a n s, drop-at (take a s) (take n (drop a s)) a (length-take-le a s (omega arith)), q)
-
-module _ (s : List ℕ) (g : Stage) (n x : ℕ) (q : n ≡ lengthAt s (g .state .cursor .at)) (l : x ≡ n) (h : g .state .cursor .at + 4 + n ≤ length s) (b : Bool) (e : b ≡ same (take x (drop (g .state .cursor .at + 4) s)) sentinelBytes) where
+-- One entry, from what the code's calls answer: n is its length, b whether it is the sentinel
+module _ (s : List ℕ) (g : Stage) (n : ℕ) (q : n ≡ lengthAt s (g .state .cursor .at)) (b : Bool) (e : b ≡ same (drop (g .state .cursor .at + 4) (take (g .state .cursor .at + 4 + n) s)) sentinelBytes) where
   pub entry-sentinel : b ≡ true → (c : Cursor) → c ≡ seek (g .state .cursor .at + 4 + n) (g .state .cursor) → stage (state c (g .state .table)) (g .entities) ≡ pastEntry s g
   unfolding pastEntry
-  entry-sentinel k c w = rw (← q, part-of s (g .state .cursor .at + 4) n x h l, ← e, k, w)
+  entry-sentinel k c w = rw (← q, ← e, k, w)
 
   pub entry-entity : b ≡ false → (c : Cursor) → c ≡ seek (g .state .cursor .at + 4) (g .state .cursor) → (r : State) → r ≡ run Entity (take (g .state .cursor .at + 4 + n) s) (state c (g .state .table))
       → (d : Cursor) → d ≡ closed (g .state .cursor .at + 4 + n) (r .cursor) → stage (state d (r .table)) (g .entities + 1) ≡ pastEntry s g
   unfolding pastEntry
   entry-entity k c w r v d y =
       let i : run Entity (take (g .state .cursor .at + 4 + n) s) (seeks (g .state .cursor .at + 4) (g .state)) ≡ r = sym (v ∙ rw w) in
-      rw (← q, part-of s (g .state .cursor .at + 4) n x h l, ← e, k, i, y)
+      rw (← q, ← e, k, i, y)

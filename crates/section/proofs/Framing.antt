@@ -16,6 +16,7 @@ use Rattle.layout.proofs.Walk.{All, given, all-bind, all-need}
 use Rattle.layout.proofs.InBytes.{behind, four-sound, number-small, four-complete}
 use Rattle.section.specs.Framing.{allZero, Part, Parts, boundary, boundaries, framing}
 use Rattle.section.specs.Refusals.{framed, Framable}
+use Rattle.section.specs.Private.{framingFrom}
 use Rattle.section.proofs.Derivation.{four-zero}
 
 -- A payload of n bytes, in an entry that begins at a place
@@ -131,10 +132,7 @@ boundaries-sound s u (suc k) at h f =
     all-bind (boundaries k s (at + 4 + numberAt s at)) _ (boundaries-sound s u k (at + 4 + numberAt s at) h₃ (omega arith)) λ ps end r.
     given (entry-framed s at (numberAt s at) h₃ h₂ (number-small s u at h₁) (four-sound s u at h₁) r)
 
--- The bound on the boundaries plays no part: from any boundary on, `boundary` says what follows
-unfoldable pub framingFrom : List ℕ → ℕ → Parts
-framingFrom s at = boundaries (suc (length s)) s at
-
+-- From any boundary on, `boundary` says what follows
 pub framing-start : (s : List ℕ) → framing s ≡ framingFrom s 0
 unfolding framing framingFrom
 framing-start s = refl

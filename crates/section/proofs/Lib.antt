@@ -5,5 +5,6 @@ pub mod Refusals
 pub mod Demand3
 pub mod Entries
 pub mod Bytes
+pub mod Sentinel
 pub mod Decode
 pub mod Texts

@@ -22,7 +22,8 @@ use Rattle.section.specs.Section.{same, ended, readEntity, readPayload, 
 use Rattle.section.specs.Refusals.{framed, Framable, Boundary, BadBoundary, few-remain, length-zero, length-long, BadPayload, bad-read, bytes-remain, Refusal, too-long, bad-boundary, bad-payload}
 use Rattle.section.specs.Theorems.{Refusal-exact}
 use Rattle.section.proofs.Derivation.{payload-some, payload-small}
-use Rattle.section.proofs.Framing.{partAt, partsOf, not-true, Span, span-none, span-more, boundaries-sound, framingFrom, framing-start, framing-past, framing-complete, framing-sound, from-few, from-zero, from-long, four-not-zero}
+use Rattle.section.specs.Private.{framingFrom}
+use Rattle.section.proofs.Framing.{partAt, partsOf, not-true, Span, span-none, span-more, boundaries-sound, framing-start, framing-past, framing-complete, framing-sound, from-few, from-zero, from-long, four-not-zero}
 use Rattle.section.proofs.Section.{IsItem, same-sound, part-there, payload-sound, payload-complete, payloads-sound, entries-framed}
 
 -- What holds of a refusal, if it is one

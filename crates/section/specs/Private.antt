@@ -1,18 +1,20 @@
 -- What only the private functions of the crate promise one another. No public contract cites anything here.
-use Prim.Native.Nat.{ℕ, _+_}
-use mathlib.Core.Bool.{cond}
+use Prim.Native.Nat.{ℕ, suc, _+_, _≤_}
+use mathlib.Core.Bool.{cond, _&&_}
 use mathlib.Core.List.{List, [], _∷_}
 use mathlib.Core.Path.{_≡_}
-use lib.Dec.{ltb}
+use lib.Dec.{ltb, leb}
 use lib.ListN.{length, take, drop}
-use Rattle.layout.specs.Reading.{Outcome, ok, refuse}
+use Rattle.layout.specs.Reading.{Outcome, ok, refuse, _>>=_}
 use Rattle.layout.specs.Entities.{Entity}
 use Rattle.leaf.specs.State.{State, state, start, seek, lengthAt, refusedOnce}
 use Rattle.leaf.specs.Run.{run}
 use Rattle.leaf.specs.Theorems.{arriveAll}
 use Rattle.leaf.specs.declared.Cursor.{Cursor}
 use Rattle.section.specs.Derivation.{sentinelBytes, Placed}
-use Rattle.section.specs.Section.{same}
+use Rattle.section.specs.Framing.{Parts, boundaries}
+use Rattle.section.specs.Answers.{framingEnd}
+use Rattle.section.specs.Section.{same, readSection}
 use Rattle.section.specs.declared.Progress.{Progress}
 
 -- What is read so far, with the table
@@ -59,3 +61,26 @@ arriveEntities (e ∷ es) st = arriveEntities es (arriveAll (e .leaves) (seeks (
 pub data Reads (table : List ℕ) (end : ℕ) (g : Stage) : Outcome ℕ (List Placed) → Type 0 where
   reads : {es : List Placed} {at : ℕ} → g ≡ stage (seeks end (arriveEntities es (state start table))) (length es) → Reads table end g (ok es at)
   stops : {n p : ℕ} → (g .state .cursor .refusal ≡ n) × (n ≡ 0 → ⊥) × (g .state .cursor .place ≡ p) × (length (g .state .table) ≡ length table) → Reads table end g (refuse n p)
+
+-- The framing from a boundary on. The bound on the boundaries plays no part
+unfoldable pub framingFrom : List ℕ → ℕ → Parts
+framingFrom s at = boundaries (suc (length s)) s at
+
+-- Where a framing ends, without the parts that it finds
+abbrev pub endOf : Parts → Outcome ℕ (Unit {0})
+endOf g = g >>= λ parts end. ok tt end
+
+-- A boundary up to which the framing is good: how it ends is how it goes on from there
+pub record Walked (s : List ℕ) (at : ℕ) : Type 0 where
+  pub inside : at ≤ length s
+  pub rest : framingEnd s ≡ endOf (framingFrom s at)
+
+-- Where the entry at a boundary ends; the boundary itself, if no whole entry stands there
+unfoldable pub entryEnd : List ℕ → (boundary : ℕ) → ℕ
+entryEnd s at = cond (leb 1 (lengthAt s at) && leb (at + 4 + lengthAt s at) (length s)) (at + 4 + lengthAt s at) at
+
+-- Entries are read up to a boundary: if the framing is good behind it too, the stage is that of the section's reading
+pub record Walks (s table : List ℕ) (at : ℕ) (g : Stage) : Type 0 where
+  pub walked : Walked s at
+  pub kept : length (g .state .table) ≡ length table
+  pub reads : (end : ℕ) → framingEnd s ≡ ok tt end → Reads table end g (readSection s)

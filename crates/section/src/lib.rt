@@ -2,21 +2,32 @@
 use leaf::Answer;
 use leaf::Cursor;
 ghost use Prim.Native.Nat.{_+_, _≤_};
+ghost use mathlib.Core.Bool.{_&&_};
 ghost use mathlib.Core.Path.{_≡_};
-ghost use lib.ListN.{length, drop};
+ghost use lib.ListN.{length, take, drop};
 ghost use Rattle.layout.specs.Alone.{limit};
-ghost use Rattle.layout.specs.Reading.{ok};
 ghost use Rattle.layout.specs.Theorems.{Bytes};
 ghost use Rattle.leaf.specs.State.{lengthAt};
 ghost use Rattle.leaf.specs.Finish.{resultOf};
+ghost use Rattle.section.specs.Derivation.{sentinelBytes};
 ghost use Rattle.section.specs.Framing.{allZero};
 ghost use Rattle.section.specs.Answers.{framingOf, framingEnd};
 ghost use Rattle.section.specs.Section.{same, readSection, reading};
 ghost use Rattle.section.specs.Demand3.{Demand3};
-ghost use Rattle.section.specs.Private.{staged, closed, pastEntry, Reads};
+ghost use Rattle.section.specs.Private.{staged, closed, pastEntry, entryEnd, Walked, Walks};
 
 // The payload that yields nothing.
 pub const SECTION_SENTINEL_PAYLOAD: [u8; 9] = [0, 4, 0, 0, 0, 0x70, 0x67, 0x72, 0x78];
+
+// Its bytes as two numbers and a byte.
+const SENTINEL_FIRST: u32 = 0x0000_0400;
+
+const SENTINEL_SECOND: u32 = 0x7267_7000;
+
+const SENTINEL_LAST: u8 = 0x78;
+
+// How many bytes are looked at for zeros at a time.
+const BLOCK: usize = 64;
 
 // What the framing comes to: where the padding begins, or a refusal.
 pub enum Framed {
@@ -30,51 +41,101 @@ struct Progress {
     entities: usize,
 }
 
-// Whether only zeros stand from a place on.
+// What is read, and the boundary up to which the framing is known to be good.
+struct Walk {
+    progress: Progress,
+    at: usize,
+}
+
+// Whether only zeros stand from a place on. Whole blocks come first.
 fn all_zero(s: &[u8], at: usize) -> bool
     requires { ⌜ at ≤ length (now s) ⌝ }
     ensures { λ r. ⌜ r ≡ allZero (drop at (now (s .entry))) ⌝ }
 {
     let mut i = at;
-    while i < s.len() {
-        if s[i] != 0 {
+    while BLOCK <= s.len() - i {
+        let e = i + BLOCK;
+        if !zeros(s, i, e) {
             return false;
         }
-        i += 1;
+        i = e;
     }
-    true
+    zeros(s, i, s.len())
 }
 
-// The framing, by refusals 2 to 4. Its entries are walked by their lengths; only where a length is 0, or fewer than four bytes
-// are left, are all bytes up to the end looked at, and there it ends.
+// Whether only zeros stand from a place up to another. There is no early exit, so that the compiler can take many bytes at a
+// time.
+fn zeros(s: &[u8], a: usize, e: usize) -> bool
+    requires { ⌜ (a ≤ e) × (e ≤ length (now s)) ⌝ }
+    ensures { λ r. ⌜ allZero (drop a (now (s .entry))) ≡ (r && allZero (drop e (now (s .entry)))) ⌝ }
+{
+    let mut bits: u8 = 0;
+    let mut i = a;
+    while i < e {
+        bits |= s[i];
+        i += 1;
+    }
+    bits == 0
+}
+
+// The framing, by refusals 2 to 4.
 pub fn entry_payloads(section: &[u8]) -> Framed
     ensures { λ r. ⌜ framingOf r ≡ framingEnd (now (section .entry)) ⌝ }
 {
-    let mut at = 0;
-    while 4 <= section.len() - at {
-        let n = leaf::length_at(section, at) as usize;
-        if n == 0 {
-            if all_zero(section, at) {
-                return Framed::Whole { end: at };
-            }
-            return Framed::Refused {
-                number: 3,
-                place: at,
-            };
-        }
-        if section.len() - at - 4 < n {
-            return Framed::Refused {
-                number: 4,
-                place: at,
-            };
-        }
-        at = at + 4 + n;
+    framing_from(section, 0)
+}
+
+// The framing, from a boundary on that is known to be good. Its entries are walked by their lengths.
+fn framing_from(s: &[u8], from: usize) -> Framed
+    requires { ⌜ Walked (now s) from ⌝ }
+    ensures { λ r. ⌜ framingOf r ≡ framingEnd (now (s .entry)) ⌝ }
+{
+    let mut at = from;
+    let mut end = entry_end(s, at);
+    while at < end {
+        at = end;
+        end = entry_end(s, at);
     }
-    if all_zero(section, at) {
+    framing_at(s, at)
+}
+
+// Where the entry at a boundary ends; the boundary itself, if no whole entry stands there.
+fn entry_end(s: &[u8], at: usize) -> usize
+    requires { ⌜ at ≤ length (now s) ⌝ }
+    ensures { λ r. ⌜ r ≡ entryEnd (now (s .entry)) at ⌝ }
+{
+    let n = leaf::length_at(s, at) as usize;
+    if n == 0 {
+        return at;
+    }
+    if s.len() - at - 4 < n {
+        return at;
+    }
+    at + 4 + n
+}
+
+// The framing at a boundary where no whole entry stands. Only here are all bytes up to the end looked at.
+fn framing_at(s: &[u8], at: usize) -> Framed
+    requires { ⌜ Walked (now s) at × (entryEnd (now s) at ≡ at) ⌝ }
+    ensures { λ r. ⌜ framingOf r ≡ framingEnd (now (s .entry)) ⌝ }
+{
+    if all_zero(s, at) {
         return Framed::Whole { end: at };
     }
+    if s.len() - at < 4 {
+        return Framed::Refused {
+            number: 2,
+            place: at,
+        };
+    }
+    if leaf::length_at(s, at) == 0 {
+        return Framed::Refused {
+            number: 3,
+            place: at,
+        };
+    }
     Framed::Refused {
-        number: 2,
+        number: 4,
         place: at,
     }
 }
@@ -96,6 +157,24 @@ pub fn same(a: &[u8], b: &[u8]) -> bool
     true
 }
 
+// Whether the bytes from a place up to another are the sentinel: a payload of nine bytes, looked at as two numbers and a byte.
+fn is_sentinel(s: &[u8], begin: usize, end: usize) -> bool
+    requires { ⌜ (begin ≤ end) × (end ≤ length (now s)) ⌝ ∗ ⌜ Bytes (now s) ⌝ }
+    ensures { λ r. ⌜ r ≡ same (drop begin (take end (now (s .entry)))) sentinelBytes ⌝ }
+{
+    if end - begin != 9 {
+        return false;
+    }
+    if leaf::length_at(s, begin) != SENTINEL_FIRST {
+        return false;
+    }
+    if leaf::length_at(s, begin + 4) != SENTINEL_SECOND {
+        return false;
+    }
+    let last = begin + 8;
+    s[last] == SENTINEL_LAST
+}
+
 // The cursor behind an entity: refused, if the payload goes on.
 fn close(c: Cursor, end: usize) -> Cursor
     ensures { λ r. ⌜ r ≡ closed end c ⌝ }
@@ -108,14 +187,14 @@ fn close(c: Cursor, end: usize) -> Cursor
 
 // One entry, where the cursor stands: the sentinel, which yields nothing, or an entity.
 fn read_entry(p: Progress, s: &[u8], t: &mut [u32]) -> Progress
-    requires { ⌜ p .cursor .at + 4 + lengthAt (now s) (p .cursor .at) ≤ length (now s) ⌝ ∗ ⌜ length (now s) ≤ limit ⌝ ∗ ⌜ p .entities ≤ limit ⌝ }
+    requires { ⌜ p .cursor .at + 4 + lengthAt (now s) (p .cursor .at) ≤ length (now s) ⌝ ∗ ⌜ length (now s) ≤ limit ⌝ ∗ ⌜ p .entities ≤ limit ⌝ ∗ ⌜ Bytes (now s) ⌝ }
     ensures { λ r. ⌜ staged r (now (t .exit)) ≡ pastEntry (now (s .entry)) (staged p (now (t .entry))) ⌝ }
 {
     let c = p.cursor;
     let entities = p.entities;
     let begin = c.at + 4;
     let end = begin + leaf::length_at(s, c.at) as usize;
-    if same(&s[begin..end], &SECTION_SENTINEL_PAYLOAD) {
+    if is_sentinel(s, begin, end) {
         return Progress {
             cursor: c.seek(end),
             entities,
@@ -128,28 +207,34 @@ fn read_entry(p: Progress, s: &[u8], t: &mut [u32]) -> Progress
     }
 }
 
-// Entry after entry up to the padding, or to the first refusal.
-fn read_entries(s: &[u8], end: usize, t: &mut [u32]) -> Progress
-    requires { ⌜ length (now s) ≤ limit ⌝ ∗ ⌜ Bytes (now s) ⌝ ∗ ⌜ framingEnd (now s) ≡ ok tt end ⌝ }
-    ensures { λ r. ⌜ Reads (now (t .entry)) end (staged r (now (t .exit))) (readSection (now (s .entry))) ⌝ }
+// Entry after entry, as long as whole ones stand there, or to the first refusal. The framing behind it is not looked at yet.
+fn read_entries(s: &[u8], t: &mut [u32]) -> Walk
+    requires { ⌜ length (now s) ≤ limit ⌝ ∗ ⌜ Bytes (now s) ⌝ }
+    ensures { λ r. ⌜ Walks (now (s .entry)) (now (t .entry)) (r .at) (staged (r .progress) (now (t .exit))) ⌝ }
 {
     let mut p = Progress {
         cursor: Cursor::new(),
         entities: 0,
     };
     let mut at = 0;
+    let mut end = entry_end(s, at);
     while at < end {
         p = read_entry(p, s, t);
         let c = p.cursor;
         if c.refusal != 0 {
-            return p;
+            return Walk {
+                progress: p,
+                at: end,
+            };
         }
-        at = c.at;
+        at = end;
+        end = entry_end(s, at);
     }
-    p
+    Walk { progress: p, at }
 }
 
-// The whole reading. On acceptance the table has the rows, then only 0; after a refusal it is all 0.
+// The whole reading. On acceptance the table has the rows, then only 0; after a refusal it is all 0. The entries are read as they
+// are found; what they come to counts only if the framing behind them is good too.
 pub fn decode_entities(section: &[u8], table: &mut [u32]) -> Answer
     ensures { λ r. ⌜ resultOf r (now (table .exit)) ≡ reading (now (section .entry)) (now (table .entry)) ⌝ }
     ensures { λ r. ⌜ Demand3 (now (section .entry)) (now (table .entry)) (resultOf r (now (table .exit))) ⌝ }
@@ -157,13 +242,14 @@ pub fn decode_entities(section: &[u8], table: &mut [u32]) -> Answer
     if leaf::LIMIT < section.len() {
         return Cursor::new().finish(section, table, 0);
     }
-    match entry_payloads(section) {
+    let walk = read_entries(section, table);
+    match framing_from(section, walk.at) {
         Framed::Refused { number, place } => {
             let c = Cursor::new().refused(number, place);
             c.finish(section, table, 0)
         }
         Framed::Whole { end } => {
-            let p = read_entries(section, end, table);
+            let p = walk.progress;
             let c = p.cursor;
             c.finish(&section[..end], table, p.entities)
         }

@@ -1,14 +1,13 @@
--- Refused, As, or Numeric.
-use mathlib.Core.Path.{ap, _∙_}
+-- What stands where, told as a number and a place.
+use mathlib.Core.Path.{sym, _∙_}
 use borrow.Author.Needs.{needs}
-use Rattle.parts.proofs.Numeric.{text-length, text-taken, text-fits, text-pasted}
-use Rattle.parts.specs.SqlText.{filled}
-use Rattle.parts.specs.Parts.{numberIn, placeIn}
+use Rattle.parts.specs.SqlText.{sqlText}
+use Rattle.parts.proofs.SqlText.{told}
 use Rattle.parts.proofs.fill_sql_text.Statement.{statement}
 use Rattle.parts.proofs.fill_sql_text.Tie as tie
 
-find-sql-text-requires : tie.Need-find-sql-text-requires
-find-sql-text-requires c κs = search needs
+place-sql-text-requires : tie.Need-place-sql-text-requires
+place-sql-text-requires c κs = tt
 
 enum-known-found : tie.Need-enum-known-found
 enum-known-found c = search needs
@@ -16,49 +15,38 @@ enum-known-found c = search needs
 enum-told : tie.Need-enum-told
 enum-told c = search needs
 
-enum-known-found-2 : tie.Need-enum-known-found-2
-enum-known-found-2 c = search needs
-
-numeric-sql-string-requires : tie.Need-numeric-sql-string-requires
-numeric-sql-string-requires c κs = search needs
-
-array-share-prefix-bytes : tie.Need-array-share-prefix-bytes
-array-share-prefix-bytes c = text-fits _ _ (c .before .before .numeric-sql-string .ensures .0)
-
-slice-aggregate-paste : tie.Need-slice-aggregate-paste
-slice-aggregate-paste c = let e = c .before .before .before .numeric-sql-string .ensures .0 in rw (text-taken _ _ e) (text-length _ _ e)
-
-paste-requires : tie.Need-paste-requires
-paste-requires c κs = search needs
-
-returns : tie.Need-returns
-returns c = let h = rw (c .before .found .given .1) at (c .before .before .before .find-sql-text .ensures) in (ap (filled _) (h .0), (ap numberIn (h .0), ap placeIn (h .0)))
-
-returns-2 : tie.Need-returns-2
-returns-2 c = let h = rw (c .enum-told .given .1) at (c .before .before .find-sql-text .ensures) in (ap (filled _) (h .0), (ap numberIn (h .0), ap placeIn (h .0)))
+enum-told-2 : tie.Need-enum-told-2
+enum-told-2 c = search needs
 
 same-length : tie.Need-same-length
 same-length c = search needs
 
+returns : tie.Need-returns
+returns c = let e = c .before .before .before .before .before .place-sql-text .ensures in (e .1, told (sqlText _ _ _) _ (sym (c .before .found .given .1) ∙ e .0))
+
+same-length-2 : tie.Need-same-length-2
+same-length-2 c = search needs
+
+returns-2 : tie.Need-returns-2
+returns-2 c = let e = c .before .before .before .before .place-sql-text .ensures in (e .1, told (sqlText _ _ _) _ (sym (c .enum-told .given .1) ∙ e .0))
+
+same-length-3 : tie.Need-same-length-3
+same-length-3 c = search needs
+
 returns-3 : tie.Need-returns-3
-returns-3 c =
-    let h = rw (c .before .before .before .before .before .before .before .before .found2 .given .1) at (c .before .before .before .before .before .before .before .before .before .before .find-sql-text .ensures) in
-    let e = c .before .before .before .before .before .before .numeric-sql-string .ensures in
-    (c .before .before .paste .ensures ∙ text-pasted _ _ (e .0) _ (h .1) (e .1) ∙ ap (filled _) (h .0), (ap numberIn (h .0), ap placeIn (h .0)))
+returns-3 c = let e = c .before .before .before .before .place-sql-text .ensures in (e .1, told (sqlText _ _ _) _ (sym (c .enum-told2 .given .1) ∙ e .0))
 
 pub fill-sql-text-spec : {M : Type 1} → statement M
 fill-sql-text-spec =
     tie.close
     (tie.spec
-    find-sql-text-requires
+    place-sql-text-requires
     enum-known-found
     enum-told
-    enum-known-found-2
-    numeric-sql-string-requires
-    array-share-prefix-bytes
-    slice-aggregate-paste
-    paste-requires
-    returns
-    returns-2
+    enum-told-2
     same-length
+    returns
+    same-length-2
+    returns-2
+    same-length-3
     returns-3)

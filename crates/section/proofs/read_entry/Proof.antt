@@ -1,12 +1,11 @@
 -- The sentinel, or an entity.
-use Prim.Native.Nat.{_+_, _-_}
-use native.Mathlib.Omega.{arith}
-use mathlib.Core.Path.{sym}
-use lib.Seq.{length-take-le}
-use borrow.Author.Needs.{needs}
-use denote.Ref.{now}
-use Rattle.section.specs.Private.{staged}
 use Rattle.section.proofs.Entries.{entry-sentinel, entry-entity}
+use Rattle.section.specs.Private.{staged}
+use denote.Ref.{now}
+use lib.Seq.{length-take-le}
+use mathlib.Core.Path.{sym}
+use native.Mathlib.Omega.{arith}
+use borrow.Author.Needs.{needs}
 use Rattle.section.proofs.read_entry.Statement.{statement}
 use Rattle.section.proofs.read_entry.Tie as tie
 
@@ -14,7 +13,7 @@ add-begin : tie.Need-add-begin
 add-begin c = search needs
 
 length-at-requires : tie.Need-length-at-requires
-length-at-requires c κs = search needs
+length-at-requires c κs = tt
 
 cast-end : tie.Need-cast-end
 cast-end c = search needs
@@ -22,53 +21,35 @@ cast-end c = search needs
 add-end : tie.Need-add-end
 add-end c = search needs
 
-sub-same : tie.Need-sub-same
-sub-same c = search needs
-
-part-same-start : tie.Need-part-same-start
-part-same-start c = search needs
-
-part-same-end : tie.Need-part-same-end
-part-same-end c = search needs
-
-slice-aggregate-same : tie.Need-slice-aggregate-same
-slice-aggregate-same c = search needs
-
-same-requires : tie.Need-same-requires
-same-requires c κs = search needs
+is-sentinel-requires : tie.Need-is-sentinel-requires
+is-sentinel-requires c κs = search needs
 
 seek-requires : tie.Need-seek-requires
-seek-requires c κs = search needs
+seek-requires c κs = tt
 
 returns : tie.Need-returns
-returns c =
-    let n = c .before .before .before .before .before .length-at .result in
-    let at = c .before .before .before .before .before .before .before .before .before .before .args .p .cursor .at in
-    entry-sentinel (now (c .before .before .before .before .before .before .before .before .before .before .args .s)) (staged (c .before .before .before .before .before .before .before .before .before .before .args .p) (now (c .before .before .before .before .before .before .before .before .before .before .args .t))) n (at + 4 + n - (at + 4)) (c .before .before .before .before .before .length-at .ensures) (omega arith) (omega (arith, c .before .before .before .before .before .length-at .ensures, c .before .before .before .before .before .before .before .before .before .before .pre .0)) _ (c .before .before .same .ensures) (c .before .if1 .taken) _ (c .seek .ensures)
+returns c = entry-sentinel (now (c .before .before .before .before .before .before .before .before .args .s)) (staged (c .before .before .before .before .before .before .before .before .args .p) (now (c .before .before .before .before .before .before .before .before .args .t))) _ (c .before .before .before .length-at .ensures) _ (c .before .before .is-sentinel .ensures) (c .before .if1 .taken) _ (c .seek .ensures)
 
 seek-requires-2 : tie.Need-seek-requires-2
-seek-requires-2 c κs = search needs
+seek-requires-2 c κs = tt
 
 slice-aggregate-read-entity : tie.Need-slice-aggregate-read-entity
-slice-aggregate-read-entity c = sym (length-take-le _ _ (omega (arith, c .before .before .before .before .before .before .length-at .ensures, c .before .before .before .before .before .before .before .before .before .before .before .pre .0)))
+slice-aggregate-read-entity c = sym (length-take-le _ _ (omega (arith, c .before .before .before .before .length-at .ensures, c .before .before .before .before .before .before .before .before .before .pre .0)))
 
 read-entity-requires : tie.Need-read-entity-requires
-read-entity-requires c κs = search needs
+read-entity-requires c κs = tt
 
 close-requires : tie.Need-close-requires
-close-requires c κs = search needs
+close-requires c κs = tt
 
-add-t11 : tie.Need-add-t11
-add-t11 c = omega (arith, c .before .before .before .before .before .before .before .before .before .before .before .before .before .before .before .before .pre .1 .1)
+add-t10 : tie.Need-add-t10
+add-t10 c = omega (arith, c .before .before .before .before .before .before .before .before .before .before .before .before .before .before .pre .1 .1 .0)
 
 same-length : tie.Need-same-length
 same-length c = search needs
 
 returns-2 : tie.Need-returns-2
-returns-2 c =
-    let n = c .before .before .before .before .before .before .before .before .before .before .before .length-at .result in
-    let at = c .before .before .before .before .before .before .before .before .before .before .before .before .before .before .before .before .args .p .cursor .at in
-    entry-entity (now (c .before .before .before .before .before .before .before .before .before .before .before .before .before .before .before .before .args .s)) (staged (c .before .before .before .before .before .before .before .before .before .before .before .before .before .before .before .before .args .p) (now (c .before .before .before .before .before .before .before .before .before .before .before .before .before .before .before .before .args .t))) n (at + 4 + n - (at + 4)) (c .before .before .before .before .before .before .before .before .before .before .before .length-at .ensures) (omega arith) (omega (arith, c .before .before .before .before .before .before .before .before .before .before .before .length-at .ensures, c .before .before .before .before .before .before .before .before .before .before .before .before .before .before .before .before .pre .0)) _ (c .before .before .before .before .before .before .before .before .same .ensures) (c .before .before .before .before .before .before .before .if1 .left) _ (c .before .before .before .before .before .before .seek2 .ensures) _ (c .before .before .before .read-entity .ensures) _ (c .close .ensures)
+returns-2 c = entry-entity (now (c .before .before .before .before .before .before .before .before .before .before .before .before .before .before .args .s)) (staged (c .before .before .before .before .before .before .before .before .before .before .before .before .before .before .args .p) (now (c .before .before .before .before .before .before .before .before .before .before .before .before .before .before .args .t))) _ (c .before .before .before .before .before .before .before .before .before .length-at .ensures) _ (c .before .before .before .before .before .before .before .before .is-sentinel .ensures) (c .before .before .before .before .before .before .before .if1 .left) _ (c .before .before .before .before .before .before .seek2 .ensures) _ (c .before .before .before .read-entity .ensures) _ (c .close .ensures)
 
 pub read-entry-spec : {M : Type 1} → statement M
 read-entry-spec =
@@ -78,17 +59,13 @@ read-entry-spec =
     length-at-requires
     cast-end
     add-end
-    sub-same
-    part-same-start
-    part-same-end
-    slice-aggregate-same
-    same-requires
+    is-sentinel-requires
     seek-requires
     returns
     seek-requires-2
     slice-aggregate-read-entity
     read-entity-requires
     close-requires
-    add-t11
+    add-t10
     same-length
     returns-2)

@@ -1,0 +1,51 @@
+-- From boundary to boundary.
+use Rattle.section.proofs.Entries.{end-walked, none-here}
+use Rattle.section.specs.Private.{Walked, entryEnd}
+use denote.Ref.{now}
+use lib.ListN.{length}
+use mathlib.Core.Path.{_≡_, sym, _∙_}
+use native.Mathlib.Omega.{arith}
+use Prim.Native.Nat.{_-_}
+use Rattle.section.proofs.framing_from.Statement.{statement}
+use Rattle.section.proofs.framing_from.Tie as tie
+
+abbrev Inv-loop : tie.InvT-loop
+Inv-loop s from at₀ end₀ at end = Walked s at × (end ≡ entryEnd s at)
+
+abbrev μ-loop : tie.MeasureT-loop
+μ-loop s from at₀ end₀ at end = length s - at
+
+entry-end-requires : tie.Need-entry-end-requires Inv-loop μ-loop
+entry-end-requires c κs = c .before .pre .inside
+
+loop-holds : tie.Need-loop-holds Inv-loop μ-loop
+loop-holds c = (c .before .before .pre, c .entry-end .ensures)
+
+entry-end-requires-2 : tie.Need-entry-end-requires-2 Inv-loop μ-loop
+entry-end-requires-2 c κs = end-walked (now (c .before .before .before .before .args .s)) (λ i h. omega (arith, c .before .before .before .shared-slice-known .given i)) (c .before .loop .at) (c .before .loop .inv .0) (c .before .loop .end) (c .before .loop .inv .1) (c .loop-test .taken) .inside
+
+loop-less : tie.Need-loop-less Inv-loop μ-loop
+loop-less c = omega (arith, c .before .loop-test .taken, end-walked (now (c .before .before .before .before .before .args .s)) (λ i h. omega (arith, c .before .before .before .before .shared-slice-known .given i)) (c .before .before .loop .at) (c .before .before .loop .inv .0) (c .before .before .loop .end) (c .before .before .loop .inv .1) (c .before .loop-test .taken) .inside)
+
+loop-again : tie.Need-loop-again Inv-loop μ-loop
+loop-again c = (end-walked (now (c .before .before .before .before .before .args .s)) (λ i h. omega (arith, c .before .before .before .before .shared-slice-known .given i)) (c .before .before .loop .at) (c .before .before .loop .inv .0) (c .before .before .loop .end) (c .before .before .loop .inv .1) (c .before .loop-test .taken), c .entry-end2 .ensures)
+
+framing-at-requires : tie.Need-framing-at-requires Inv-loop μ-loop
+framing-at-requires c κs = (c .before .loop .inv .0, none-here (now (c .before .before .before .before .args .s)) (c .before .loop .at) (omega (arith, c .loop-test .left, c .before .loop .inv .1)))
+
+returns : tie.Need-returns Inv-loop μ-loop
+returns c = c .framing-at .ensures
+
+pub framing-from-spec : {M : Type 1} → statement M
+framing-from-spec =
+    tie.close
+    (tie.spec
+    Inv-loop
+    μ-loop
+    entry-end-requires
+    loop-holds
+    entry-end-requires-2
+    loop-less
+    loop-again
+    framing-at-requires
+    returns)

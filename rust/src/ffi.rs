@@ -1,0 +1,211 @@
+//! The archive's functions, as `include/pgrxsc.h` declares them, behind safe functions. All unsafe
+//! code of the crate is here.
+//!
+//! What the header asks of a caller is met by the types: a slice's pointer is not null, also where
+//! the slice is empty, and is good for the slice's length; what is lent as `&mut` overlaps nothing
+//! else that is lent.
+
+/// The four numbers of an answer: a refusal's number and place, then a and b.
+pub(crate) type Answer = [u64; 4];
+
+mod archive {
+    extern "C" {
+        pub fn pgrxsc_read_section(
+            bytes: *const u8,
+            len: usize,
+            table: *mut u32,
+            table_len: usize,
+            answer: *mut u64,
+        );
+        pub fn pgrxsc_read_payload(
+            bytes: *const u8,
+            len: usize,
+            table: *mut u32,
+            table_len: usize,
+            answer: *mut u64,
+        );
+        pub fn pgrxsc_read_metadata(
+            bytes: *const u8,
+            len: usize,
+            table: *mut u32,
+            table_len: usize,
+            answer: *mut u64,
+        );
+        pub fn pgrxsc_read_mapping(
+            bytes: *const u8,
+            len: usize,
+            table: *mut u32,
+            table_len: usize,
+            answer: *mut u64,
+        );
+        pub fn pgrxsc_row_text(
+            bytes: *const u8,
+            len: usize,
+            sort: u32,
+            offset: u32,
+            value: u32,
+            answer: *mut u64,
+        );
+        pub fn pgrxsc_sql_name(
+            bytes: *const u8,
+            len: usize,
+            sort: u32,
+            offset: u32,
+            value: u32,
+            answer: *mut u64,
+        );
+        pub fn pgrxsc_sql_text(
+            bytes: *const u8,
+            len: usize,
+            offset: u32,
+            buffer: *mut u8,
+            buffer_len: usize,
+            answer: *mut u64,
+        ) -> u32;
+        pub fn pgrxsc_write_metadata(
+            rows: *const u32,
+            rows_len: usize,
+            text: *const u8,
+            text_len: usize,
+            dest: *mut u8,
+            dest_len: usize,
+            answer: *mut u64,
+        );
+        pub fn pgrxsc_write_mapping(
+            rows: *const u32,
+            rows_len: usize,
+            text: *const u8,
+            text_len: usize,
+            dest: *mut u8,
+            dest_len: usize,
+            answer: *mut u64,
+        );
+        pub fn pgrxsc_path_pairs(bytes: *const u8, len: usize, answer: *mut u64) -> u64;
+        pub fn pgrxsc_is_text(bytes: *const u8, len: usize) -> bool;
+    }
+}
+
+/// What bytes are read as.
+#[derive(Clone, Copy)]
+pub(crate) enum Form {
+    Section,
+    Payload,
+    Metadata,
+    Mapping,
+}
+
+/// a is the number of entities, b the number of rows.
+pub(crate) fn read(form: Form, bytes: &[u8], table: &mut [u32]) -> Answer {
+    let function = match form {
+        Form::Section => archive::pgrxsc_read_section,
+        Form::Payload => archive::pgrxsc_read_payload,
+        Form::Metadata => archive::pgrxsc_read_metadata,
+        Form::Mapping => archive::pgrxsc_read_mapping,
+    };
+    let mut answer = [0; 4];
+    // SAFETY: the pointers and lengths are those of slices, the answer has four numbers, and
+    // `table` and `answer` overlap nothing, being borrowed mutably.
+    unsafe {
+        function(
+            bytes.as_ptr(),
+            bytes.len(),
+            table.as_mut_ptr(),
+            table.len(),
+            answer.as_mut_ptr(),
+        );
+    }
+    answer
+}
+
+/// What part of a text a row is asked for.
+#[derive(Clone, Copy)]
+pub(crate) enum Part {
+    RowText,
+    SqlName,
+}
+
+/// a is the part's start in the bytes, b its length.
+pub(crate) fn part(part: Part, bytes: &[u8], [sort, offset, value]: [u32; 3]) -> Answer {
+    let function = match part {
+        Part::RowText => archive::pgrxsc_row_text,
+        Part::SqlName => archive::pgrxsc_sql_name,
+    };
+    let mut answer = [0; 4];
+    // SAFETY: pointer and length are those of a slice; the answer has four numbers and overlaps
+    // nothing. The row may be any three numbers, since the function tests it.
+    unsafe {
+        function(
+            bytes.as_ptr(),
+            bytes.len(),
+            sort,
+            offset,
+            value,
+            answer.as_mut_ptr(),
+        );
+    }
+    answer
+}
+
+/// a is the text's start and b its length: in the buffer if the first result is true, else in the
+/// bytes.
+pub(crate) fn sql_text(bytes: &[u8], offset: u32, buffer: &mut [u8]) -> (bool, Answer) {
+    let mut answer = [0; 4];
+    // SAFETY: the pointers and lengths are those of slices, the answer has four numbers, and
+    // `buffer` and `answer` overlap nothing, being borrowed mutably. Any offset may be given.
+    let place = unsafe {
+        archive::pgrxsc_sql_text(
+            bytes.as_ptr(),
+            bytes.len(),
+            offset,
+            buffer.as_mut_ptr(),
+            buffer.len(),
+            answer.as_mut_ptr(),
+        )
+    };
+    (place == 1, answer)
+}
+
+/// What is written.
+#[derive(Clone, Copy)]
+pub(crate) enum Written {
+    Metadata,
+    Mapping,
+}
+
+/// a is the written length.
+pub(crate) fn write(written: Written, rows: &[u32], text: &[u8], dest: &mut [u8]) -> Answer {
+    let function = match written {
+        Written::Metadata => archive::pgrxsc_write_metadata,
+        Written::Mapping => archive::pgrxsc_write_mapping,
+    };
+    let mut answer = [0; 4];
+    // SAFETY: the pointers and lengths are those of slices, the answer has four numbers, and
+    // `dest` and `answer` overlap nothing, being borrowed mutably.
+    unsafe {
+        function(
+            rows.as_ptr(),
+            rows.len(),
+            text.as_ptr(),
+            text.len(),
+            dest.as_mut_ptr(),
+            dest.len(),
+            answer.as_mut_ptr(),
+        );
+    }
+    answer
+}
+
+/// The number of pairs is the first result; a and b are 0.
+pub(crate) fn path_pairs(bytes: &[u8]) -> (u64, Answer) {
+    let mut answer = [0; 4];
+    // SAFETY: pointer and length are those of a slice; the answer has four numbers and overlaps
+    // nothing.
+    let pairs =
+        unsafe { archive::pgrxsc_path_pairs(bytes.as_ptr(), bytes.len(), answer.as_mut_ptr()) };
+    (pairs, answer)
+}
+
+pub(crate) fn is_text(bytes: &[u8]) -> bool {
+    // SAFETY: pointer and length are those of a slice.
+    unsafe { archive::pgrxsc_is_text(bytes.as_ptr(), bytes.len()) }
+}

@@ -1,0 +1,77 @@
+//! Reads pgrx schema sections, and writes the metadata records and mappings that are in them.
+//!
+//! An extension built with pgrx declares its functions, types and aggregates in a section
+//! `.pgrxsc` of its shared object. The section is a run of entries, each a length and a payload of
+//! one entity, and then zero bytes, if any. The reader is proved: it accepts exactly the sections
+//! that the format's written layouts allow, and gives all others one numbered [`Refusal`] with its
+//! place. This crate lends that reader's archive the slices, and gives its answers as Rust types.
+//!
+//! ```
+//! use pgrxsc::{EntityKind, Refusal, Table};
+//!
+//! /// The names of the schemas that a section declares.
+//! fn schemas(section: &[u8]) -> Result<Vec<&str>, Refusal> {
+//!     let mut table = Table::new();
+//!     let reading = table.read_section(section)?;
+//!     let schemas = reading.entities().filter(|entity| entity.kind() == EntityKind::Schema);
+//!     Ok(schemas.filter_map(|schema| schema.texts().nth(1)).collect())
+//! }
+//!
+//! let section = b"\x1c\0\0\0\x01\x04\0\0\0path\x04\0\0\0name\x03\0\0\0a.b\x07\0\0\0";
+//! assert_eq!(schemas(section), Ok(vec!["name"]));
+//! let refusal = schemas(&section[..20]).unwrap_err();
+//! assert_eq!(refusal.to_string(), "the length at byte 0 is more than the bytes after it (refusal 4)");
+//! ```
+//!
+//! # Rows
+//!
+//! A reading gives a [`Row`] for each value of the section, in the order in which they stand there.
+//! The rows are stored in a table of 32-bit numbers, three to a row, which the caller lends
+//! ([`read_section`]) or a [`Table`] holds. Texts are not copied: they are parts of the bytes read.
+//! Nothing is reserved for a count or a length that only stands in the section; only a [`Table`]
+//! reserves memory at all.
+//!
+//! # What is proved, and what is not
+//!
+//! The proofs are of the archive. This crate is ordinary Rust; all its unsafe code is the calls of
+//! the archive's functions. It relies on the header's promise that these change nothing but what
+//! they are lent. What they answer is tested before it is used as a text, as an index or as a sort:
+//! an answer that breaks the header's promises makes the crate panic, and nothing else does.
+//!
+//! All functions can be called from several threads at a time.
+//!
+//! # Building
+//!
+//! The crate links `libcapi.a`, which `rt staticlib capi` puts in `target/staticlib` of the
+//! repository. For an archive in another folder, name the folder in the environment variable
+//! `PGRXSC_LIB`.
+
+#![deny(unsafe_code)]
+#![deny(missing_docs)]
+
+#[allow(unsafe_code)]
+mod ffi;
+mod parts;
+mod reading;
+mod refusal;
+mod row;
+mod table;
+mod writing;
+
+pub use parts::{is_text, path_pairs, row_text, sql_name, sql_text};
+pub use reading::{
+    read_mapping, read_metadata, read_payload, read_section, Entities, Entity, Reading, Rows, Texts,
+};
+pub use refusal::Refusal;
+pub use row::{EntityKind, Row, Sort};
+pub use table::{table_len, Table};
+pub use writing::{write_mapping, write_metadata};
+
+/// The most bytes that are read or written: 16 MiB.
+pub const LIMIT: usize = 16_777_216;
+
+/// How many numbers of a table make a row.
+pub const ROW_WIDTH: usize = 3;
+
+/// How many bytes the buffer for an SQL text has: those of the longest Numeric text.
+pub const SQL_TEXT_SIZE: usize = 31;

@@ -1,0 +1,178 @@
+//! Records and mappings that are written, and read again.
+
+mod common;
+
+use common::{hex, text};
+use pgrxsc::{
+    read_mapping, read_metadata, write_mapping, write_metadata, Refusal, Row, Sort, Table, LIMIT,
+};
+
+fn rows(rows: &[(Sort, u32, u32)]) -> Vec<u32> {
+    let rows = rows
+        .iter()
+        .map(|&(sort, offset, value)| Row::new(sort, offset, value));
+    rows.flat_map(Row::numbers).collect()
+}
+
+/// A record with a resolution, as an argument As, returned a set of Numeric; its texts in turned
+/// order, one of them used twice in part.
+fn record() -> (Vec<u32>, &'static [u8], Vec<u8>) {
+    let rows = rows(&[
+        (Sort::Flag, 9, 1),
+        (Sort::Text, 4, 5),
+        (Sort::Tag, 9, 1),
+        (Sort::Tag, 9, 1),
+        (Sort::Tag, 9, 1),
+        (Sort::Text, 0, 6),
+        (Sort::Tag, 9, 1),
+        (Sort::Tag, 9, 2),
+        (Sort::Tag, 9, 3),
+        (Sort::Flag, 9, 0),
+        (Sort::Number, 9, 8),
+        (Sort::Flag, 9, 1),
+        (Sort::Number, 9, 1 << 24),
+    ]);
+    let bytes = [
+        vec![1],
+        text("ident"),
+        vec![1, 1, 1],
+        text("TEXTid"),
+        vec![1, 2, 3, 0, 8, 0, 0, 0, 1, 0, 0, 0, 1],
+    ];
+    (rows, b"TEXTident", bytes.concat())
+}
+
+#[test]
+fn a_record() {
+    let (rows, text, bytes) = record();
+    let mut dest = vec![0xee; bytes.len() + 3];
+    assert_eq!(write_metadata(&rows, text, &mut dest), Ok(bytes.len()));
+    assert_eq!(dest, [&bytes[..], &[0xee; 3]].concat());
+
+    let mut table = Table::new();
+    let reading = table.read_metadata(&bytes).unwrap();
+    assert_eq!(reading.texts().collect::<Vec<_>>(), ["ident", "TEXTid"]);
+    let written = rows.chunks(3).map(|row| (row[0], row[2]));
+    assert!(reading
+        .rows()
+        .map(|row| (row.sort.number(), row.value))
+        .eq(written));
+}
+
+#[test]
+fn what_was_read() {
+    let (_, _, bytes) = record();
+    let mut table = [0; 39];
+    let reading = read_metadata(&bytes, &mut table).unwrap();
+    let mut dest = vec![0; bytes.len()];
+    let len = write_metadata(reading.numbers(), reading.bytes(), &mut dest);
+    assert_eq!(len, Ok(bytes.len()));
+    assert_eq!(dest, bytes);
+}
+
+#[test]
+fn mappings() {
+    for mapping in [
+        "01 00000000",
+        "01 03000000 494e54",
+        "02 01 01000000 61",
+        "02 03 01 0a000000 01 02000000",
+        "02 04",
+        "03 00 05000000 00 06000000",
+        "04",
+        "05",
+    ] {
+        let mapping = hex(mapping);
+        let mut table = [0; 18];
+        let reading = read_mapping(&mapping, &mut table).unwrap();
+        let mut dest = vec![0; mapping.len()];
+        let len = write_mapping(reading.numbers(), &mapping, &mut dest);
+        assert_eq!(len, Ok(mapping.len()));
+        assert_eq!(dest, mapping);
+    }
+}
+
+/// Asserts that the rows are refused so, and that the destination stays as it is.
+fn refused(rows: &[u32], text: &[u8], size: usize, number: u32) {
+    let mut dest = vec![0xee; size];
+    let refusal = write_mapping(rows, text, &mut dest).unwrap_err();
+    assert_eq!(refusal, Refusal::new(number, 0), "{rows:?}");
+    assert_eq!(dest, vec![0xee; size]);
+}
+
+#[test]
+fn not_one_mapping() {
+    refused(&[], b"", 9, 14);
+    refused(&[2, 0, 6], b"", 9, 14);
+    refused(&[2, 0, 257], b"", 9, 14);
+    refused(&[3, 0, 1], b"", 9, 14);
+    refused(&[2, 0, 1], b"", 9, 14);
+    refused(&[2, 0, 5, 2, 0, 5], b"", 9, 14);
+    refused(&[2, 0, 5, 0, 0, 0], b"", 9, 14);
+    // Numbers that are no whole row.
+    refused(&[2, 0, 5, 0], b"", 9, 14);
+    refused(&[2, 0], b"", 9, 14);
+    // A mapping is no record.
+    let mut dest = [0; 9];
+    assert_eq!(
+        write_metadata(&[2, 0, 5], b"", &mut dest),
+        Err(Refusal::new(14, 0))
+    );
+}
+
+#[test]
+fn texts_outside() {
+    refused(&[2, 0, 1, 6, 1, 4], b"TEXT", 9, 15);
+    refused(&[2, 0, 1, 6, 5, 0], b"TEXT", 9, 15);
+    refused(&[2, 0, 1, 6, u32::MAX, 2], b"TEXT", 9, 15);
+    refused(&[2, 0, 1, 6, 0, 1], b"\xff", 9, 15);
+    // 14 comes before 15.
+    refused(&[2, 0, 1, 6, 0, 1, 2, 0, 1], b"\xff", 9, 14);
+}
+
+#[test]
+fn too_long() {
+    // A table of sixteen texts of 1 MiB each.
+    let mut record = rows(&[
+        (Sort::Flag, 0, 0),
+        (Sort::Tag, 0, 1),
+        (Sort::Tag, 0, 5),
+        (Sort::Tag, 0, 1),
+        (Sort::Tag, 0, 3),
+        (Sort::Count, 0, 16),
+    ]);
+    for _ in 0..16 {
+        record.extend(rows(&[(Sort::Tag, 0, 1), (Sort::Text, 0, 1 << 20)]));
+    }
+    let text = vec![b'a'; 1 << 20];
+    let mut dest = vec![0; LIMIT + 1000];
+    assert_eq!(
+        write_metadata(&record, &text, &mut dest),
+        Err(Refusal::new(16, 0))
+    );
+
+    // The texts have 16 times 5 bytes beside their own, and the rest 9: so it is 89 above the limit.
+    let last = record.len() - 1;
+    record[last] -= 88;
+    assert_eq!(
+        write_metadata(&record, &text, &mut dest),
+        Err(Refusal::new(16, 0))
+    );
+    assert!(dest.iter().all(|&byte| byte == 0));
+    record[last] -= 1;
+    assert_eq!(write_metadata(&record, &text, &mut dest), Ok(LIMIT));
+}
+
+#[test]
+fn destination_too_short() {
+    for size in 0..9 {
+        refused(&[2, 0, 1, 6, 0, 4], b"TEXT", size, 17);
+    }
+    let mut dest = [0; 9];
+    assert_eq!(
+        write_mapping(&[2, 0, 1, 6, 0, 4], b"TEXT", &mut dest),
+        Ok(9)
+    );
+    // 15 comes before 17.
+    refused(&[2, 0, 1, 6, 1, 4], b"TEXT", 0, 15);
+}

@@ -1,8 +1,9 @@
 #!/usr/bin/env python3
 """Writes the cases of the crate cases: its stdin, and its stdout with the counts and the tally.
 
-The argument is a file of cases with their answers, of which the lines of reading (S, P, M, G), of parts (T, N, Q) and of
-writing (W, w) are taken, each once. The cases below are added, with answers by the rules of document 01. Each reading that is
+The arguments are files of cases with their answers, of which the lines of reading (S, P, M, G), of parts (T, N, Q), of writing
+(W, w) and of objects (O) are taken, each once. The first file is one of all these but objects; the second is a sample of the
+Rust's own answers, by `compare/run --sample 2000 --seed 3629`. The cases below are added, with answers by the rules of document 01. Each reading that is
 accepted is followed by the same with a table of just as many rows, and with one of a row less, which 13 refuses; each writing
 that is accepted, by the same with a destination of just the length, and with one of a byte less, which 17 refuses. For each
 section there is a case of the path report (R), whose pairs are counted here on the rows of the section's answer. In stdin a
@@ -16,7 +17,7 @@ from collections import Counter
 READINGS = ("S", "P", "M", "G")  # a section; one payload, one metadata record, one mapping, each alone
 PARTS = ("T", "N", "Q")  # a row's text, the SQL name from a row, the SQL text of a mapping
 WRITINGS = ("W", "w")  # a metadata record, one mapping
-LETTERS = READINGS + PARTS + ("R",) + WRITINGS  # R is the path report
+LETTERS = READINGS + PARTS + ("R",) + WRITINGS + ("O",)  # R is the path report; O is a section as objects
 LENGTH_DIGITS = 5
 MANY = 5461  # rows
 ROW_WIDTH = 3
@@ -284,9 +285,10 @@ def section(items, padding):
 
 
 def answered():
-    """The cases as lines of the file, and those added."""
-    with open(sys.argv[1]) as file:
-        yield from (line.rstrip("\n") for line in file if line.split(" ")[0] in LETTERS)
+    """The cases as lines of the files, and those added."""
+    for name in sys.argv[1:]:
+        with open(name) as file:
+            yield from (line.rstrip("\n") for line in file if line.split(" ")[0] in LETTERS)
     for letter, field, answer in ADDED:
         yield f"{letter} {MANY} {field} {answer}"
     for padding, items in enumerate(ADDED_SECTIONS):
@@ -397,6 +399,8 @@ def cases():
             yield sql_text(line)
         if letter in WRITINGS:
             yield from writing(line)
+        if letter == "O":
+            yield "O 0 " + line[2:]
 
 
 def shortened(lines):

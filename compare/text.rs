@@ -1,17 +1,10 @@
 //! The text check beside `std::str::from_utf8`: first the answers, then the speed. Built and run by `compare/text [SEED]`.
 mod common;
+mod ffi;
 
 use common::{median, Random};
 use std::hint::black_box;
 use std::time::Instant;
-
-extern "C" {
-    fn pgrxsc_is_text(bytes: *const u8, len: usize) -> bool;
-}
-
-fn ours(text: &[u8]) -> bool {
-    unsafe { pgrxsc_is_text(text.as_ptr(), text.len()) }
-}
 
 fn std(text: &[u8]) -> bool {
     std::str::from_utf8(text).is_ok()
@@ -20,7 +13,7 @@ fn std(text: &[u8]) -> bool {
 /// Compares the answers on a text and counts it.
 fn compare(text: &[u8], count: &mut u64) {
     *count += 1;
-    if ours(text) != std(text) {
+    if ffi::is_text(text) != std(text) {
         println!("differs: std says {} of {:02x?}", std(text), text);
         std::process::exit(1);
     }
@@ -73,7 +66,7 @@ fn seconds(check: fn(&[u8]) -> bool, texts: &[Vec<u8>], rounds: usize) -> f64 {
 fn race(name: &str, texts: Vec<Vec<u8>>, rounds: usize) {
     let (mut our_times, mut std_times) = (Vec::new(), Vec::new());
     for _ in 0..31 {
-        our_times.push(seconds(ours, &texts, rounds));
+        our_times.push(seconds(ffi::is_text, &texts, rounds));
         std_times.push(seconds(std, &texts, rounds));
     }
     let each = |times| median(times) * 1e9 / (texts.len() * rounds) as f64;

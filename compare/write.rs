@@ -1,31 +1,12 @@
 //! The metadata writer on records of some 16 MiB: the bytes that it writes, then its speed beside that of copying these bytes and
 //! checking their texts. Built and run by `compare/write [SEED]`.
 mod common;
+mod ffi;
 
 use common::{median, Random};
+use ffi::{What, COUNT, FLAG, LIMIT, NUMBER, TAG, TEXT};
 use std::hint::black_box;
 use std::time::Instant;
-
-extern "C" {
-    fn pgrxsc_is_text(bytes: *const u8, len: usize) -> bool;
-    fn pgrxsc_write_metadata(
-        rows: *const u32,
-        rows_len: usize,
-        text: *const u8,
-        text_len: usize,
-        dest: *mut u8,
-        dest_len: usize,
-        answer: *mut u64,
-    );
-}
-
-const LIMIT: usize = 16_777_216;
-
-const TAG: u32 = 2;
-const FLAG: u32 = 3;
-const NUMBER: u32 = 4;
-const COUNT: u32 = 5;
-const TEXT: u32 = 6;
 
 /// A record: its rows, the texts that they speak of, and the bytes that document 01 gives it.
 #[derive(Default)]
@@ -75,29 +56,13 @@ impl Record {
         self.text.extend(text);
     }
 
-    fn write(&self, dest: &mut [u8]) -> [u64; 4] {
-        let mut answer = [0; 4];
-        unsafe {
-            pgrxsc_write_metadata(
-                self.rows.as_ptr(),
-                self.rows.len(),
-                self.text.as_ptr(),
-                self.text.len(),
-                dest.as_mut_ptr(),
-                dest.len(),
-                answer.as_mut_ptr(),
-            )
-        }
-        answer
+    fn write(&self, dest: &mut [u8]) -> ffi::Answer {
+        ffi::write(What::Metadata, &self.rows, &self.text, dest)
     }
 
     fn check(&self, check: fn(&[u8]) -> bool) -> bool {
         self.texts.iter().all(|&(at, len)| check(&self.text[at..at + len]))
     }
-}
-
-fn ours(text: &[u8]) -> bool {
-    unsafe { pgrxsc_is_text(text.as_ptr(), text.len()) }
 }
 
 fn std(text: &[u8]) -> bool {
@@ -139,7 +104,7 @@ fn race(name: &str, record: Record) {
     for _ in 0..31 {
         times[0].push(milliseconds(|| assert_eq!(record.write(&mut dest)[0], 0)));
         times[1].push(milliseconds(|| black_box(&mut copy)[..len].copy_from_slice(black_box(&record.bytes))));
-        times[2].push(milliseconds(|| assert!(record.check(ours))));
+        times[2].push(milliseconds(|| assert!(record.check(ffi::is_text))));
         times[3].push(milliseconds(|| assert!(record.check(std))));
         times[4].push(milliseconds(|| {
             for _ in 0..2 {

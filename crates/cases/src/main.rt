@@ -8,6 +8,8 @@
 // - T is the text of a row, and N the SQL name from it. The numbers are the row. The answer is number, place and the part.
 // - Q is the SQL text of a mapping. The numbers are its offset and the buffer's size. The answer is number, place and the part,
 //   then the buffer, and number and place of the call that filled it.
+// - O is a section as objects. Its number is 0. The answer is `accept`, the number of entities, and the objects' fields one after
+//   the other: a text as its bytes, any other field as a number of four bytes. Or it is `refuse`.
 // - R is the path report. Its number is 0. The answer is 0, 0 and how many pairs there are; or a refusal's number and place.
 // - W is the writing of a metadata record, and w that of one mapping. The numbers are the destination's size, how many numbers
 //   the table has, and these; the bytes are the lent text. The answer is 0, 0 and the length, or a refusal's number and place;
@@ -421,6 +423,7 @@ fn answer_other(
         b'T' => row_text(numbers, s, out),
         b'N' => sql_name(numbers, s, out),
         b'Q' => sql_text(numbers, s, out),
+        b'O' => objects(s, out),
         b'R' => path_report(s, out),
         b'W' | b'w' => write(letter, numbers, s, out),
         _ => bad_case(out),
@@ -531,6 +534,79 @@ fn is_clear(t: &[u32]) -> bool {
         k += 1;
     }
     true
+}
+
+// A section as objects.
+fn objects(s: &[u8], out: &mut [u8; OUT_SIZE]) -> usize {
+    let mut table = [FILL; MOST_NUMBERS];
+    objects_with(s, &mut table, out)
+}
+
+fn objects_with(s: &[u8], t: &mut [u32], out: &mut [u8; OUT_SIZE]) -> usize {
+    let answer = section::decode_entities(s, t);
+    let used = used_numbers(answer, t);
+    match answer {
+        Answer::Accepted { entities, rows: _ } => spell_objects(
+            entities as u64,
+            &t[..used],
+            s,
+            out,
+        ),
+        Answer::Refused {
+            number: _,
+            place: _,
+        } => put(out, 0, b"refuse"),
+    }
+}
+
+fn spell_objects(entities: u64, t: &[u32], s: &[u8], out: &mut [u8; OUT_SIZE]) -> usize {
+    let end = put(out, 0, b"accept");
+    let end = put_number(out, end, entities);
+    if t.len() == 0 {
+        return put(out, end, b" -");
+    }
+    let end = put_blank(out, end);
+    put_fields(out, end, t, s)
+}
+
+// Puts the fields of the rows of a table, without a blank between two.
+fn put_fields(out: &mut [u8; OUT_SIZE], at: usize, t: &[u32], s: &[u8]) -> usize {
+    let mut end = at;
+    let mut k = 0;
+    while ROW_WIDTH <= t.len() - k {
+        let next = k + ROW_WIDTH;
+        end = put_field(out, end, &t[k..next], s);
+        k = next;
+    }
+    end
+}
+
+fn put_field(out: &mut [u8; OUT_SIZE], at: usize, t: &[u32], s: &[u8]) -> usize {
+    if t.len() != ROW_WIDTH {
+        return at;
+    }
+    if t[0] != leaf::SORT_TEXT {
+        return put_four(out, at, t[2]);
+    }
+    let mut number = FILL;
+    let mut place = FILL;
+    let row = Row {
+        sort: t[0],
+        offset: t[1],
+        value: t[2],
+    };
+    put_digits(out, at, parts::row_text(s, row, &mut number, &mut place))
+}
+
+// Puts the four bytes of a number, the lowest first.
+fn put_four(out: &mut [u8; OUT_SIZE], at: usize, n: u32) -> usize {
+    let bytes = [
+        (n % 256) as u8,
+        (n / 256 % 256) as u8,
+        (n / 65536 % 256) as u8,
+        (n / 16777216) as u8,
+    ];
+    put_digits(out, at, &bytes)
 }
 
 fn path_report(s: &[u8], out: &mut [u8; OUT_SIZE]) -> usize {
@@ -682,10 +758,15 @@ fn put_refusal(out: &mut [u8; OUT_SIZE], at: usize, number: u32, place: usize) -
 }
 
 fn put_bytes(out: &mut [u8; OUT_SIZE], at: usize, s: &[u8]) -> usize {
-    let mut end = put_blank(out, at);
+    let end = put_blank(out, at);
     if s.len() == 0 {
         return put(out, end, b"-");
     }
+    put_digits(out, end, s)
+}
+
+fn put_digits(out: &mut [u8; OUT_SIZE], at: usize, s: &[u8]) -> usize {
+    let mut end = at;
     let mut k = 0;
     while k < s.len() {
         end = put_byte(out, end, s[k]);

@@ -2,26 +2,14 @@
 use Prim.Native.Nat.{_≤_, _-_}
 use lib.ListN.{length}
 use borrow.Author.Needs.{needs}
-use Rattle.cases.proofs.put_bytes.Statement.{statement}
-use Rattle.cases.proofs.put_bytes.Tie as tie
+use Rattle.cases.proofs.put_digits.Statement.{statement}
+use Rattle.cases.proofs.put_digits.Tie as tie
 
 abbrev Inv-loop : tie.InvT-loop
 Inv-loop out₀ at s end₀ k₀ out end k = k ≤ length s
 
 abbrev μ-loop : tie.MeasureT-loop
 μ-loop out₀ at s end₀ k₀ out end k = length s - k
-
-put-blank-requires : tie.Need-put-blank-requires Inv-loop μ-loop
-put-blank-requires c κs = search needs
-
-slice-aggregate-put : tie.Need-slice-aggregate-put Inv-loop μ-loop
-slice-aggregate-put c = search needs
-
-put-requires : tie.Need-put-requires Inv-loop μ-loop
-put-requires c κs = search needs
-
-returns : tie.Need-returns Inv-loop μ-loop
-returns c = search needs
 
 loop-holds : tie.Need-loop-holds Inv-loop μ-loop
 loop-holds c = search needs
@@ -41,23 +29,19 @@ loop-less c = search needs
 loop-again : tie.Need-loop-again Inv-loop μ-loop
 loop-again c = search needs
 
-returns-2 : tie.Need-returns-2 Inv-loop μ-loop
-returns-2 c = search needs
+returns : tie.Need-returns Inv-loop μ-loop
+returns c = search needs
 
-pub put-bytes-spec : {M : Type 1} → statement M
-put-bytes-spec =
+pub put-digits-spec : {M : Type 1} → statement M
+put-digits-spec =
     tie.close
     (tie.spec
     Inv-loop
     μ-loop
-    put-blank-requires
-    slice-aggregate-put
-    put-requires
-    returns
     loop-holds
     shared-slice-read-put-byte
     put-byte-requires
     add-k
     loop-less
     loop-again
-    returns-2)
+    returns)

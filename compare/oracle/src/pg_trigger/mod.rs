@@ -1,0 +1,7 @@
+pub mod entity;
+
+pub mod attribute {
+    pub struct PgTriggerAttribute;
+}
+
+pub struct PgTrigger;

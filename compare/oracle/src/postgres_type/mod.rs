@@ -1,0 +1,5 @@
+pub mod entity;
+
+pub use entity::Alignment;
+
+pub struct PostgresTypeDerive;

@@ -13,8 +13,7 @@ pub fn read_positioning_ref(c: Cursor, s: &[u8], t: &mut [u32]) -> Cursor
     let c = c.read_u8(s, t);
     let tag = c.value;
     match tag {
-        layout::POSITIONING_REF_FULL_PATH => c.read_str(s, t),
-        layout::POSITIONING_REF_NAME => c.read_str(s, t),
+        layout::POSITIONING_REF_FULL_PATH..=layout::POSITIONING_REF_NAME => c.read_str(s, t),
         _ => c.refused(9, at),
     }
 }
@@ -51,12 +50,10 @@ pub fn read_extern_arg(c: Cursor, s: &[u8], t: &mut [u32]) -> Cursor
     let tag = c.value;
     match tag {
         layout::EXTERN_ARG_CREATE_OR_REPLACE..=layout::EXTERN_ARG_PARALLEL_RESTRICTED => c,
-        layout::EXTERN_ARG_SHOULD_PANIC => c.read_str(s, t),
-        layout::EXTERN_ARG_SCHEMA => c.read_str(s, t),
+        layout::EXTERN_ARG_SHOULD_PANIC..=layout::EXTERN_ARG_SCHEMA => c.read_str(s, t),
         layout::EXTERN_ARG_SUPPORT => read_positioning_ref(c, s, t),
-        layout::EXTERN_ARG_NAME => c.read_str(s, t),
-        layout::EXTERN_ARG_COST => c.read_str(s, t),
-        layout::EXTERN_ARG_REQUIRES => read_positioning_ref_list(c, s, t),
+        layout::EXTERN_ARG_NAME..=layout::EXTERN_ARG_COST => c.read_str(s, t),
+        layout::EXTERN_ARG_REQUIRES => read_positioning_ref_list(c.anew(), s, t),
         _ => c.refused(9, at),
     }
 }
@@ -82,7 +79,7 @@ pub fn read_search_path(c: Cursor, s: &[u8], t: &mut [u32]) -> Cursor
 {
     let c = c.read_bool(s, t);
     if c.value != 0 {
-        return read_str_list(c, s, t);
+        return read_str_list(c.anew(), s, t);
     }
     c
 }

@@ -14,8 +14,7 @@ pub fn read_sql_declared(c: Cursor, s: &[u8], t: &mut [u32]) -> Cursor
     let kind = c.value;
     let c = c.read_str(s, t); // name
     match kind {
-        layout::SQL_DECLARED_TYPE => read_declared_type(c, s, t),
-        layout::SQL_DECLARED_ENUM => read_declared_type(c, s, t),
+        layout::SQL_DECLARED_TYPE..=layout::SQL_DECLARED_ENUM => read_declared_type(c, s, t),
         layout::SQL_DECLARED_FUNCTION => c,
         _ => c.refused(9, place),
     }
@@ -33,7 +32,7 @@ pub fn read_declared_sql(c: Cursor, s: &[u8], t: &mut [u32]) -> Cursor
     ensures { λ r. ⌜ state r (now (t .exit)) ≡ run DeclaredSql (now (s .entry)) (state c (now (t .entry))) ⌝ }
 {
     let at = c.at;
-    let c = metadata::read_argument_sql(c, s, t);
+    let c = metadata::read_argument_sql(c.anew(), s, t);
     if c.refusal != 0 {
         return c;
     }

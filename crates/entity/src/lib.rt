@@ -89,8 +89,7 @@ pub fn read_entity(c: Cursor, s: &[u8], t: &mut [u32]) -> Cursor
         layout::ENTITY_FUNCTION => read_function(c, s, t),
         layout::ENTITY_TYPE => read_type(c, s, t),
         layout::ENTITY_ENUM => read_enum(c, s, t),
-        layout::ENTITY_ORD => read_ord_or_hash(c, s, t),
-        layout::ENTITY_HASH => read_ord_or_hash(c, s, t),
+        layout::ENTITY_ORD..=layout::ENTITY_HASH => read_ord_or_hash(c, s, t),
         layout::ENTITY_AGGREGATE => read_aggregate(c, s, t),
         layout::ENTITY_TRIGGER => read_trigger(c, s, t),
         _ => c.refused(8, at),
@@ -112,7 +111,7 @@ pub fn read_custom_sql(c: Cursor, s: &[u8], t: &mut [u32]) -> Cursor
     let c = read_custom_sql_text(c, s, t);
     let c = c.read_bool(s, t); // bootstrap
     let c = c.read_bool(s, t); // finalize
-    let c = attribute::read_positioning_ref_list(c, s, t); // requires
+    let c = attribute::read_positioning_ref_list(c.anew(), s, t); // requires
     declared::read_sql_declared_list(c, s, t) // creates
 }
 
@@ -204,7 +203,7 @@ pub fn read_enum(c: Cursor, s: &[u8], t: &mut [u32]) -> Cursor
 {
     let c = read_name_file_line(c, s, t);
     let c = read_type_paths(c, s, t);
-    let c = attribute::read_str_list(c, s, t); // variants
+    let c = attribute::read_str_list(c.anew(), s, t); // variants
     attribute::read_to_sql_config(c, s, t) // to_sql_config
 }
 

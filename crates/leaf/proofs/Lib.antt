@@ -3,3 +3,4 @@ pub mod Leaves
 pub mod Table
 pub mod Reading
 pub mod Finish
+pub mod Handing

@@ -77,6 +77,20 @@ impl Cursor {
         }
     }
 
+    // The same cursor, made anew: a caller that hands this on to a call keeps its own in registers.
+    pub fn anew(self) -> Cursor
+        ensures { λ r. ⌜ r ≡ self ⌝ }
+    {
+        Cursor {
+            at: self.at,
+            rows: self.rows,
+            refusal: self.refusal,
+            short: self.short,
+            place: self.place,
+            value: self.value,
+        }
+    }
+
     // The cursor, refused.
     fn stop(self, number: u32, place: usize) -> Cursor
         ensures { λ r. ⌜ r ≡ stopped number place self ⌝ }

@@ -1,6 +1,7 @@
 // The metadata of a type: how it maps to SQL as an argument and as a result.
 use leaf::Answer;
 use leaf::Cursor;
+ghost use mathlib.Core.Logic.{_≢_};
 ghost use mathlib.Core.Path.{_≡_};
 ghost use Rattle.layout.specs.Entities.{SqlMapping, SqlArrayMapping, Numeric, Returns, SqlMappingList, ArgumentSql, ReturnSql};
 ghost use Rattle.layout.specs.Entities.{ArgumentError, ReturnsError, FunctionMetadataType, OptionResolution, Resolution, TypeOrigin};
@@ -8,17 +9,29 @@ ghost use Rattle.layout.specs.Alone.{readingAlone, ExactAlone};
 ghost use Rattle.leaf.specs.State.{state};
 ghost use Rattle.leaf.specs.Run.{run};
 ghost use Rattle.leaf.specs.Finish.{resultOf};
+ghost use Rattle.metadata.specs.Private.{BehindTag};
 
+// As, which most mappings are, is told apart first.
 pub fn read_sql_mapping(c: Cursor, s: &[u8], t: &mut [u32]) -> Cursor
     ensures { λ r. ⌜ state r (now (t .exit)) ≡ run SqlMapping (now (s .entry)) (state c (now (t .entry))) ⌝ }
 {
     let at = c.at;
     let c = c.read_u8(s, t);
+    if c.value == layout::SQL_MAPPING_AS {
+        return c.read_str(s, t);
+    }
+    read_other_sql_mapping(c, s, t, at)
+}
+
+// The mappings other than As, behind their tag, which stands at `at`.
+fn read_other_sql_mapping(c: Cursor, s: &[u8], t: &mut [u32], at: usize) -> Cursor
+    requires { ⌜ c .value ≢ 1 ⌝ }
+    ensures { λ r. ⌜ BehindTag SqlMapping (now (s .entry)) at (state c (now (t .entry))) (state r (now (t .exit))) ⌝ }
+{
     let tag = c.value;
     match tag {
-        layout::SQL_MAPPING_AS => c.read_str(s, t),
         layout::SQL_MAPPING_ARRAY => read_sql_array_mapping(c, s, t),
-        layout::SQL_MAPPING_NUMERIC => read_numeric(c, s, t),
+        layout::SQL_MAPPING_NUMERIC => read_numeric(c.anew(), s, t),
         layout::SQL_MAPPING_COMPOSITE => c,
         layout::SQL_MAPPING_SKIP => c,
         _ => c.refused(9, at),
@@ -33,7 +46,7 @@ pub fn read_sql_array_mapping(c: Cursor, s: &[u8], t: &mut [u32]) -> Cursor
     let tag = c.value;
     match tag {
         layout::SQL_MAPPING_AS => c.read_str(s, t),
-        layout::SQL_MAPPING_NUMERIC => read_numeric(c, s, t),
+        layout::SQL_MAPPING_NUMERIC => read_numeric(c.anew(), s, t),
         layout::SQL_MAPPING_COMPOSITE => c,
         _ => c.refused(9, at),
     }
@@ -56,8 +69,7 @@ pub fn read_returns(c: Cursor, s: &[u8], t: &mut [u32]) -> Cursor
     let c = c.read_u8(s, t);
     let tag = c.value;
     match tag {
-        layout::RETURNS_ONE => read_sql_mapping(c, s, t),
-        layout::RETURNS_SET_OF => read_sql_mapping(c, s, t),
+        layout::RETURNS_ONE..=layout::RETURNS_SET_OF => read_sql_mapping(c.anew(), s, t),
         layout::RETURNS_TABLE => read_sql_mapping_list(c, s, t),
         _ => c.refused(9, at),
     }
@@ -73,7 +85,7 @@ pub fn read_sql_mapping_list(c: Cursor, s: &[u8], t: &mut [u32]) -> Cursor
         if c.refusal != 0 {
             return c;
         }
-        c = read_sql_mapping(c, s, t);
+        c = read_sql_mapping(c.anew(), s, t);
         i += 1;
     }
     c
@@ -86,7 +98,7 @@ pub fn read_argument_sql(c: Cursor, s: &[u8], t: &mut [u32]) -> Cursor
     let c = c.read_u8(s, t);
     let tag = c.value;
     match tag {
-        layout::RESULT_OK => read_sql_mapping(c, s, t),
+        layout::RESULT_OK => read_sql_mapping(c.anew(), s, t),
         layout::RESULT_ERR => read_argument_error(c, s, t),
         _ => c.refused(9, at),
     }
@@ -135,7 +147,7 @@ pub fn read_function_metadata_type(c: Cursor, s: &[u8], t: &mut [u32]) -> Cursor
     ensures { λ r. ⌜ state r (now (t .exit)) ≡ run FunctionMetadataType (now (s .entry)) (state c (now (t .entry))) ⌝ }
 {
     let c = read_option_resolution(c, s, t); // resolution
-    let c = read_argument_sql(c, s, t); // argument_sql
+    let c = read_argument_sql(c.anew(), s, t); // argument_sql
     read_return_sql(c, s, t) // return_sql
 }
 

@@ -32,15 +32,17 @@ const START: u64 = 0;
 // How many bytes are looked at for ASCII at a time.
 const BLOCK: usize = 64;
 
-// Whether s is UTF-8.
+// Whether s is UTF-8. Each call is handed a part that is made here, all of s: so the compiler passes its place and length
+// in registers.
 pub fn is_utf8(s: &[u8]) -> bool
     ensures { λ r. ⌜ r ≡ utf8 (now (s .entry)) ⌝ }
 {
-    let i = ascii_prefix(s);
-    if i == s.len() {
+    let n = s.len();
+    let i = ascii_prefix(&s[..n]);
+    if i == n {
         return true;
     }
-    walk_from(s, i, START) == START
+    walk_from(&s[..n], i, START) == START
 }
 
 // Where a walk that stood at q stands after the bytes of s. A text may be walked in parts, each from the answer for the

@@ -5,11 +5,21 @@ use mathlib.Core.Logic.{⊎-elim}
 use mathlib.Core.Path.{_∙_, refl}
 use Rattle.layout.specs.Entities.{ExternArg, bareExternArgs, otherExternArgs}
 use Rattle.layout.proofs.Forms.{tags-bare, tags-in, tags-wrong}
+use Rattle.leaf.proofs.Handing.{anew-in, of-two}
 use Rattle.attribute.proofs.read_extern_arg.Statement.{statement}
 use Rattle.attribute.proofs.read_extern_arg.Tie as tie
 
 read-u8-requires : tie.Need-read-u8-requires
 read-u8-requires c κs = tt
+
+read-positioning-ref-requires : tie.Need-read-positioning-ref-requires
+read-positioning-ref-requires c κs = tt
+
+anew-requires : tie.Need-anew-requires
+anew-requires c κs = tt
+
+read-positioning-ref-list-requires : tie.Need-read-positioning-ref-list-requires
+read-positioning-ref-list-requires c κs = tt
 
 read-str-requires : tie.Need-read-str-requires
 read-str-requires c κs = tt
@@ -17,88 +27,67 @@ read-str-requires c κs = tt
 read-str-requires-2 : tie.Need-read-str-requires-2
 read-str-requires-2 c κs = tt
 
-read-positioning-ref-requires : tie.Need-read-positioning-ref-requires
-read-positioning-ref-requires c κs = tt
-
-read-str-requires-3 : tie.Need-read-str-requires-3
-read-str-requires-3 c κs = tt
-
-read-str-requires-4 : tie.Need-read-str-requires-4
-read-str-requires-4 c κs = tt
-
-read-positioning-ref-list-requires : tie.Need-read-positioning-ref-list-requires
-read-positioning-ref-list-requires c κs = tt
-
 refused-requires : tie.Need-refused-requires
 refused-requires c κs = tt
 
 same-length : tie.Need-same-length
-same-length c = c .before .before .read-str .kept .1 .1 .0 ∙ c .before .before .before .before .before .before .before .read-u8 .kept .1 .1 .0
+same-length c = c .before .before .read-positioning-ref .kept .1 .1 .0 ∙ c .before .before .before .before .before .before .before .read-u8 .kept .1 .1 .0
 
 returns : tie.Need-returns
 unfolding ExternArg
-returns c = tags-in (bareExternArgs ++ otherExternArgs) 13 _ _ _ _ (c .before .before .before .before .before .before .before .read-u8 .ensures) (c .before .before .before .before .match .keys1) refl (c .before .before .read-str .ensures)
+returns c = tags-in (bareExternArgs ++ otherExternArgs) 15 _ _ _ _ (c .before .before .before .before .before .before .before .read-u8 .ensures) (c .before .before .before .before .match .keys1) refl (c .before .before .read-positioning-ref .ensures)
 
 same-length-2 : tie.Need-same-length-2
-same-length-2 c = c .before .before .read-str2 .kept .1 .1 .0 ∙ c .before .before .before .before .before .before .before .read-u8 .kept .1 .1 .0
+same-length-2 c = c .before .before .read-positioning-ref-list .kept .1 .1 .0 ∙ c .before .before .before .before .before .before .before .before .read-u8 .kept .1 .1 .0
 
 returns-2 : tie.Need-returns-2
 unfolding ExternArg
-returns-2 c = tags-in (bareExternArgs ++ otherExternArgs) 14 _ _ _ _ (c .before .before .before .before .before .before .before .read-u8 .ensures) (c .before .before .before .before .match .keys2) refl (c .before .before .read-str2 .ensures)
+returns-2 c = tags-in (bareExternArgs ++ otherExternArgs) 18 _ _ _ _ (c .before .before .before .before .before .before .before .before .read-u8 .ensures) (c .before .before .before .before .before .match .keys2) refl (anew-in _ _ _ _ _ _ (c .before .before .before .before .anew .ensures) (c .before .before .read-positioning-ref-list .ensures))
 
 same-length-3 : tie.Need-same-length-3
-same-length-3 c = c .before .before .read-positioning-ref .kept .1 .1 .0 ∙ c .before .before .before .before .before .before .before .read-u8 .kept .1 .1 .0
+same-length-3 c = c .before .before .before .before .before .read-u8 .kept .1 .1 .0
 
 returns-3 : tie.Need-returns-3
 unfolding ExternArg
-returns-3 c = tags-in (bareExternArgs ++ otherExternArgs) 15 _ _ _ _ (c .before .before .before .before .before .before .before .read-u8 .ensures) (c .before .before .before .before .match .keys3) refl (c .before .before .read-positioning-ref .ensures)
+returns-3 c = tags-bare 1 12 otherExternArgs _ _ _ (c .before .before .before .before .before .read-u8 .ensures) (omega arith) (omega arith)
 
 same-length-4 : tie.Need-same-length-4
-same-length-4 c = c .before .before .read-str3 .kept .1 .1 .0 ∙ c .before .before .before .before .before .before .before .read-u8 .kept .1 .1 .0
+same-length-4 c = c .before .before .read-str .kept .1 .1 .0 ∙ c .before .before .before .before .before .before .before .before .before .before .read-u8 .kept .1 .1 .0
 
 returns-4 : tie.Need-returns-4
 unfolding ExternArg
-returns-4 c = tags-in (bareExternArgs ++ otherExternArgs) 16 _ _ _ _ (c .before .before .before .before .before .before .before .read-u8 .ensures) (c .before .before .before .before .match .keys4) refl (c .before .before .read-str3 .ensures)
+returns-4 c =
+    let e = c .before .before .before .before .before .before .before .before .before .before .read-u8 .ensures in
+    let q = c .before .before .read-str .ensures in
+    of-two 13 _ (c .before .before .before .before .before .if2 .left) (c .before .before .before .before .if3 .taken) (λ h. tags-in (bareExternArgs ++ otherExternArgs) 13 _ _ _ _ e h refl q) (λ h. tags-in (bareExternArgs ++ otherExternArgs) 14 _ _ _ _ e h refl q)
 
 same-length-5 : tie.Need-same-length-5
-same-length-5 c = c .before .before .read-str4 .kept .1 .1 .0 ∙ c .before .before .before .before .before .before .before .read-u8 .kept .1 .1 .0
+same-length-5 c = c .before .before .read-str2 .kept .1 .1 .0 ∙ c .before .before .before .before .before .before .before .before .before .before .before .read-u8 .kept .1 .1 .0
 
 returns-5 : tie.Need-returns-5
 unfolding ExternArg
-returns-5 c = tags-in (bareExternArgs ++ otherExternArgs) 17 _ _ _ _ (c .before .before .before .before .before .before .before .read-u8 .ensures) (c .before .before .before .before .match .keys5) refl (c .before .before .read-str4 .ensures)
+returns-5 c =
+    let e = c .before .before .before .before .before .before .before .before .before .before .before .read-u8 .ensures in
+    let q = c .before .before .read-str2 .ensures in
+    of-two 16 (c .before .before .before .before .before .before .before .before .before .before .before .read-u8 .result .value) (omega (arith, c .before .before .before .before .before .before .before .before .match .rest)) (c .before .before .before .before .if4 .taken) (λ h. tags-in (bareExternArgs ++ otherExternArgs) 16 _ _ _ _ e h refl q) (λ h. tags-in (bareExternArgs ++ otherExternArgs) 17 _ _ _ _ e h refl q)
 
 same-length-6 : tie.Need-same-length-6
-same-length-6 c = c .before .before .read-positioning-ref-list .kept .1 .1 .0 ∙ c .before .before .before .before .before .before .before .read-u8 .kept .1 .1 .0
+same-length-6 c = c .before .before .before .before .before .read-u8 .kept .1 .1 .0
 
 returns-6 : tie.Need-returns-6
 unfolding ExternArg
-returns-6 c = tags-in (bareExternArgs ++ otherExternArgs) 18 _ _ _ _ (c .before .before .before .before .before .before .before .read-u8 .ensures) (c .before .before .before .before .match .keys6) refl (c .before .before .read-positioning-ref-list .ensures)
-
-same-length-7 : tie.Need-same-length-7
-same-length-7 c = c .before .before .before .before .before .read-u8 .kept .1 .1 .0
-
-returns-7 : tie.Need-returns-7
-unfolding ExternArg
-returns-7 c = tags-bare 1 12 otherExternArgs _ _ _ (c .before .before .before .before .before .read-u8 .ensures) (omega arith) (omega arith)
-
-same-length-8 : tie.Need-same-length-8
-same-length-8 c = c .before .before .before .before .before .read-u8 .kept .1 .1 .0
-
-returns-8 : tie.Need-returns-8
-unfolding ExternArg
-returns-8 c = tags-wrong (bareExternArgs ++ otherExternArgs) _ _ _ _ (c .before .before .before .before .before .read-u8 .ensures) (⊎-elim (λ w. omega arith) (λ w. omega arith) (c .before .if1 .came)) (rw (c .refused .ensures))
+returns-6 c = tags-wrong (bareExternArgs ++ otherExternArgs) _ _ _ _ (c .before .before .before .before .before .read-u8 .ensures) (⊎-elim (λ w. omega arith) (λ w. omega arith) (c .before .if1 .came)) (rw (c .refused .ensures))
 
 pub read-extern-arg-spec : {M : Type 1} → statement M
 read-extern-arg-spec =
     tie.close
     (tie.spec
     read-u8-requires
+    read-positioning-ref-requires
+    anew-requires
+    read-positioning-ref-list-requires
     read-str-requires
     read-str-requires-2
-    read-positioning-ref-requires
-    read-str-requires-3
-    read-str-requires-4
-    read-positioning-ref-list-requires
     refused-requires
     same-length
     returns
@@ -111,8 +100,4 @@ read-extern-arg-spec =
     same-length-5
     returns-5
     same-length-6
-    returns-6
-    same-length-7
-    returns-7
-    same-length-8
-    returns-8)
+    returns-6)

@@ -1,10 +1,12 @@
 -- Each known kind, and the rest, after the name.
 use native.Mathlib.Omega.{arith}
+use mathlib.Core.Logic.{⊎-elim}
 use mathlib.Core.Path.{refl}
-use borrow.Author.Needs.{needs}
 use Rattle.layout.proofs.Forms.{after-in, after-wrong, drive-nothing}
 use Rattle.layout.specs.Entities.{SqlDeclared, sqlDeclareds}
 use Rattle.layout.specs.Layout.{text}
+use Rattle.leaf.proofs.Handing.{of-two}
+use borrow.Author.Needs.{needs}
 use Rattle.declared.proofs.read_sql_declared.Statement.{statement}
 use Rattle.declared.proofs.read_sql_declared.Tie as tie
 
@@ -17,9 +19,6 @@ read-str-requires c κs = tt
 read-declared-type-requires : tie.Need-read-declared-type-requires
 read-declared-type-requires c κs = tt
 
-read-declared-type-requires-2 : tie.Need-read-declared-type-requires-2
-read-declared-type-requires-2 c κs = tt
-
 refused-requires : tie.Need-refused-requires
 refused-requires c κs = tt
 
@@ -28,28 +27,25 @@ same-length c = search needs
 
 returns : tie.Need-returns
 unfolding SqlDeclared
-returns c = after-in text sqlDeclareds 1 _ _ _ _ _ (c .before .before .before .before .before .before .before .before .before .before .before .read-u8 .ensures) (c .before .before .before .before .before .before .before .read-str .ensures) (c .before .before .before .before .match .keys1) refl (c .before .before .read-declared-type .ensures)
+returns c = after-in text sqlDeclareds 3 _ _ _ _ _ (c .before .before .before .before .before .before .before .read-u8 .ensures) (c .before .before .before .read-str .ensures) (c .match .keys1) refl (drive-nothing _ _)
 
 same-length-2 : tie.Need-same-length-2
 same-length-2 c = search needs
 
 returns-2 : tie.Need-returns-2
 unfolding SqlDeclared
-returns-2 c = after-in text sqlDeclareds 2 _ _ _ _ _ (c .before .before .before .before .before .before .before .before .before .before .before .read-u8 .ensures) (c .before .before .before .before .before .before .before .read-str .ensures) (c .before .before .before .before .match .keys2) refl (c .before .before .read-declared-type2 .ensures)
+returns-2 c =
+    let e = c .before .before .before .before .before .before .before .before .before .before .before .before .before .read-u8 .ensures in
+    let f = c .before .before .before .before .before .before .before .before .before .read-str .ensures in
+    let q = c .before .before .read-declared-type .ensures in
+    of-two 1 _ (c .before .before .before .before .before .if1 .left) (c .before .before .before .before .if2 .taken) (λ h. after-in text sqlDeclareds 1 _ _ _ _ _ e f h refl q) (λ h. after-in text sqlDeclareds 2 _ _ _ _ _ e f h refl q)
 
 same-length-3 : tie.Need-same-length-3
 same-length-3 c = search needs
 
 returns-3 : tie.Need-returns-3
 unfolding SqlDeclared
-returns-3 c = after-in text sqlDeclareds 3 _ _ _ _ _ (c .before .before .before .before .before .before .before .read-u8 .ensures) (c .before .before .before .read-str .ensures) (c .match .keys3) refl (drive-nothing _ _)
-
-same-length-4 : tie.Need-same-length-4
-same-length-4 c = search needs
-
-returns-4 : tie.Need-returns-4
-unfolding SqlDeclared
-returns-4 c = after-wrong text sqlDeclareds _ _ _ _ _ (c .before .before .before .before .before .before .before .before .read-u8 .ensures) (c .before .before .before .before .read-str .ensures) (omega arith) (rw (c .refused .ensures))
+returns-3 c = after-wrong text sqlDeclareds _ _ _ _ _ (c .before .before .before .before .before .before .before .before .before .read-u8 .ensures) (c .before .before .before .before .before .read-str .ensures) (⊎-elim (λ w. omega arith) (λ w. omega arith) (c .before .if1 .came)) (rw (c .refused .ensures))
 
 pub read-sql-declared-spec : {M : Type 1} → statement M
 read-sql-declared-spec =
@@ -58,13 +54,10 @@ read-sql-declared-spec =
     read-u8-requires
     read-str-requires
     read-declared-type-requires
-    read-declared-type-requires-2
     refused-requires
     same-length
     returns
     same-length-2
     returns-2
     same-length-3
-    returns-3
-    same-length-4
-    returns-4)
+    returns-3)

@@ -1,9 +1,22 @@
 -- Each known kind, and the rest.
+use Prim.Native.Nat.{ℕ, _+_, _≤_, _<_}
+use native.Mathlib.Omega.{arith}
+use mathlib.Core.Logic.{_≢_, ⊎-elim}
 use mathlib.Core.Path.{_∙_, refl}
 use Rattle.layout.specs.Entities.{Entity, entities}
 use Rattle.layout.proofs.Forms.{kinds-in, kinds-wrong}
+use Rattle.leaf.proofs.Handing.{of-two}
 use Rattle.entity.proofs.read_entity.Statement.{statement}
 use Rattle.entity.proofs.read_entity.Tie as tie
+
+past : (a n : ℕ) → a ≤ n → n ≢ a → a + 1 ≤ n
+past a n h k = omega arith
+
+below : (n : ℕ) → n < 1 → (n ≢ 6) × (n ≢ 7)
+below n h = (omega arith, omega arith)
+
+above : (n : ℕ) → 8 ≤ n → (n ≢ 6) × (n ≢ 7)
+above n h = (omega arith, omega arith)
 
 read-kind-requires : tie.Need-read-kind-requires
 read-kind-requires c κs = tt
@@ -23,17 +36,14 @@ read-type-requires c κs = tt
 read-enum-requires : tie.Need-read-enum-requires
 read-enum-requires c κs = tt
 
-read-ord-or-hash-requires : tie.Need-read-ord-or-hash-requires
-read-ord-or-hash-requires c κs = tt
-
-read-ord-or-hash-requires-2 : tie.Need-read-ord-or-hash-requires-2
-read-ord-or-hash-requires-2 c κs = tt
-
 read-aggregate-requires : tie.Need-read-aggregate-requires
 read-aggregate-requires c κs = tt
 
 read-trigger-requires : tie.Need-read-trigger-requires
 read-trigger-requires c κs = tt
+
+read-ord-or-hash-requires : tie.Need-read-ord-or-hash-requires
+read-ord-or-hash-requires c κs = tt
 
 refused-requires : tie.Need-refused-requires
 refused-requires c κs = tt
@@ -74,39 +84,42 @@ unfolding Entity
 returns-5 c = kinds-in entities 5 _ _ _ _ (c .before .before .before .before .before .before .before .read-kind .ensures) (c .before .before .before .before .match .keys5) refl (c .before .before .read-enum .ensures)
 
 same-length-6 : tie.Need-same-length-6
-same-length-6 c = c .before .before .read-ord-or-hash .kept .1 .1 .0 ∙ c .before .before .before .before .before .before .before .read-kind .kept .1 .1 .0
+same-length-6 c = c .before .before .read-aggregate .kept .1 .1 .0 ∙ c .before .before .before .before .before .before .before .read-kind .kept .1 .1 .0
 
 returns-6 : tie.Need-returns-6
 unfolding Entity
-returns-6 c = kinds-in entities 6 _ _ _ _ (c .before .before .before .before .before .before .before .read-kind .ensures) (c .before .before .before .before .match .keys6) refl (c .before .before .read-ord-or-hash .ensures)
+returns-6 c = kinds-in entities 8 _ _ _ _ (c .before .before .before .before .before .before .before .read-kind .ensures) (c .before .before .before .before .match .keys6) refl (c .before .before .read-aggregate .ensures)
 
 same-length-7 : tie.Need-same-length-7
-same-length-7 c = c .before .before .read-ord-or-hash2 .kept .1 .1 .0 ∙ c .before .before .before .before .before .before .before .read-kind .kept .1 .1 .0
+same-length-7 c = c .before .before .read-trigger .kept .1 .1 .0 ∙ c .before .before .before .before .before .before .before .read-kind .kept .1 .1 .0
 
 returns-7 : tie.Need-returns-7
 unfolding Entity
-returns-7 c = kinds-in entities 7 _ _ _ _ (c .before .before .before .before .before .before .before .read-kind .ensures) (c .before .before .before .before .match .keys7) refl (c .before .before .read-ord-or-hash2 .ensures)
+returns-7 c = kinds-in entities 9 _ _ _ _ (c .before .before .before .before .before .before .before .read-kind .ensures) (c .before .before .before .before .match .keys7) refl (c .before .before .read-trigger .ensures)
 
 same-length-8 : tie.Need-same-length-8
-same-length-8 c = c .before .before .read-aggregate .kept .1 .1 .0 ∙ c .before .before .before .before .before .before .before .read-kind .kept .1 .1 .0
+same-length-8 c = c .before .before .read-ord-or-hash .kept .1 .1 .0 ∙ c .before .before .before .before .before .before .before .before .before .read-kind .kept .1 .1 .0
 
 returns-8 : tie.Need-returns-8
 unfolding Entity
-returns-8 c = kinds-in entities 8 _ _ _ _ (c .before .before .before .before .before .before .before .read-kind .ensures) (c .before .before .before .before .match .keys8) refl (c .before .before .read-aggregate .ensures)
+returns-8 c =
+    let v = c .before .before .before .before .before .before .before .before .before .read-kind .result .value in
+    let r = c .before .before .before .before .before .before .match .rest in
+    let e = c .before .before .before .before .before .before .before .before .before .read-kind .ensures in
+    let q = c .before .before .read-ord-or-hash .ensures in
+    let low = past 5 v (past 4 v (past 3 v (past 2 v (past 1 v (c .before .before .before .before .before .if1 .left) (r .0 .0 .0 .0 .0 .0 .1)) (r .0 .0 .0 .0 .0 .1)) (r .0 .0 .0 .0 .1)) (r .0 .0 .0 .1)) (r .0 .0 .1) in
+    of-two 6 v low (c .before .before .before .before .if2 .taken) (λ h. kinds-in entities 6 _ _ _ _ e h refl q) (λ h. kinds-in entities 7 _ _ _ _ e h refl q)
 
 same-length-9 : tie.Need-same-length-9
-same-length-9 c = c .before .before .read-trigger .kept .1 .1 .0 ∙ c .before .before .before .before .before .before .before .read-kind .kept .1 .1 .0
+same-length-9 c = c .before .before .before .before .before .read-kind .kept .1 .1 .0
 
 returns-9 : tie.Need-returns-9
 unfolding Entity
-returns-9 c = kinds-in entities 9 _ _ _ _ (c .before .before .before .before .before .before .before .read-kind .ensures) (c .before .before .before .before .match .keys9) refl (c .before .before .read-trigger .ensures)
-
-same-length-10 : tie.Need-same-length-10
-same-length-10 c = c .before .before .before .before .read-kind .kept .1 .1 .0
-
-returns-10 : tie.Need-returns-10
-unfolding Entity
-returns-10 c = kinds-wrong entities _ _ _ _ (c .before .before .before .before .read-kind .ensures) (c .before .match .rest .0 .0 .0 .0 .0 .0 .0 .0 .1, (c .before .match .rest .0 .0 .0 .0 .0 .0 .0 .1, (c .before .match .rest .0 .0 .0 .0 .0 .0 .1, (c .before .match .rest .0 .0 .0 .0 .0 .1, (c .before .match .rest .0 .0 .0 .0 .1, (c .before .match .rest .0 .0 .0 .1, (c .before .match .rest .0 .0 .1, (c .before .match .rest .0 .1, (c .before .match .rest .1, tt))))))))) (rw (c .refused .ensures))
+returns-9 c =
+    let v = c .before .before .before .before .before .read-kind .result .value in
+    let r = c .before .before .match .rest in
+    let (six, seven) = ⊎-elim (λ w. below v (w .taken)) (λ w. above v (w .1 .left)) (c .before .if1 .came) in
+    kinds-wrong entities _ _ _ _ (c .before .before .before .before .before .read-kind .ensures) (r .0 .0 .0 .0 .0 .0 .1, (r .0 .0 .0 .0 .0 .1, (r .0 .0 .0 .0 .1, (r .0 .0 .0 .1, (r .0 .0 .1, (six, (seven, (r .0 .1, (r .1, tt))))))))) (rw (c .refused .ensures))
 
 pub read-entity-spec : {M : Type 1} → statement M
 read-entity-spec =
@@ -118,10 +131,9 @@ read-entity-spec =
     read-function-requires
     read-type-requires
     read-enum-requires
-    read-ord-or-hash-requires
-    read-ord-or-hash-requires-2
     read-aggregate-requires
     read-trigger-requires
+    read-ord-or-hash-requires
     refused-requires
     same-length
     returns
@@ -140,6 +152,4 @@ read-entity-spec =
     same-length-8
     returns-8
     same-length-9
-    returns-9
-    same-length-10
-    returns-10)
+    returns-9)

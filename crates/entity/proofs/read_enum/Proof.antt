@@ -12,6 +12,9 @@ read-name-file-line-requires c κs = tt
 read-type-paths-requires : tie.Need-read-type-paths-requires
 read-type-paths-requires c κs = tt
 
+anew-requires : tie.Need-anew-requires
+anew-requires c κs = tt
+
 read-str-list-requires : tie.Need-read-str-list-requires
 read-str-list-requires c κs = tt
 
@@ -19,11 +22,11 @@ read-to-sql-config-requires : tie.Need-read-to-sql-config-requires
 read-to-sql-config-requires c κs = tt
 
 same-length : tie.Need-same-length
-same-length c = c .before .before .read-to-sql-config .kept .1 .1 .0 ∙ c .before .before .before .before .before .before .read-str-list .kept .1 .1 .0 ∙ c .before .before .before .before .before .before .before .before .before .before .read-type-paths .kept .1 .1 .0 ∙ c .before .before .before .before .before .before .before .before .before .before .before .before .before .before .read-name-file-line .kept .1 .1 .0
+same-length c = c .before .before .read-to-sql-config .kept .1 .1 .0 ∙ c .before .before .before .before .before .before .read-str-list .kept .1 .1 .0 ∙ c .before .before .before .before .before .before .before .before .before .before .before .read-type-paths .kept .1 .1 .0 ∙ c .before .before .before .before .before .before .before .before .before .before .before .before .before .before .before .read-name-file-line .kept .1 .1 .0
 
 returns : tie.Need-returns
 unfolding drive PostgresEnum NameFileLine TypePaths
-returns c = cc
+returns c = cc (c .before .before .before .before .before .before .before .before .before .before .before .before .before .before .before .read-name-file-line .ensures, c .before .before .before .before .before .before .before .before .before .before .before .read-type-paths .ensures, c .before .before .before .before .before .before .before .before .anew .ensures, c .before .before .before .before .before .before .read-str-list .ensures, c .before .before .read-to-sql-config .ensures)
 
 pub read-enum-spec : {M : Type 1} → statement M
 read-enum-spec =
@@ -31,6 +34,7 @@ read-enum-spec =
     (tie.spec
     read-name-file-line-requires
     read-type-paths-requires
+    anew-requires
     read-str-list-requires
     read-to-sql-config-requires
     same-length

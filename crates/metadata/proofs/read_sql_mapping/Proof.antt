@@ -1,8 +1,7 @@
--- Each known tag, and the rest.
-use native.Mathlib.Omega.{arith}
+-- As, and the others.
 use mathlib.Core.Path.{_∙_, refl}
 use Rattle.layout.specs.Entities.{SqlMapping, sqlMappings}
-use Rattle.layout.proofs.Forms.{drive-nothing, tags-in, tags-wrong}
+use Rattle.layout.proofs.Forms.{tags-in}
 use Rattle.metadata.proofs.read_sql_mapping.Statement.{statement}
 use Rattle.metadata.proofs.read_sql_mapping.Tie as tie
 
@@ -12,56 +11,21 @@ read-u8-requires c κs = tt
 read-str-requires : tie.Need-read-str-requires
 read-str-requires c κs = tt
 
-read-sql-array-mapping-requires : tie.Need-read-sql-array-mapping-requires
-read-sql-array-mapping-requires c κs = tt
-
-read-numeric-requires : tie.Need-read-numeric-requires
-read-numeric-requires c κs = tt
-
-refused-requires : tie.Need-refused-requires
-refused-requires c κs = tt
-
 same-length : tie.Need-same-length
-same-length c = c .before .before .read-str .kept .1 .1 .0 ∙ c .before .before .before .before .before .before .before .read-u8 .kept .1 .1 .0
+same-length c = c .before .before .read-str .kept .1 .1 .0 ∙ c .before .before .before .before .before .before .before .before .read-u8 .kept .1 .1 .0
 
 returns : tie.Need-returns
 unfolding SqlMapping
-returns c = tags-in sqlMappings 1 _ _ _ _ (c .before .before .before .before .before .before .before .read-u8 .ensures) (c .before .before .before .before .match .keys1) refl (c .before .before .read-str .ensures)
+returns c = tags-in sqlMappings 1 _ _ _ _ (c .before .before .before .before .before .before .before .before .read-u8 .ensures) (c .before .before .before .before .if1 .taken) refl (c .before .before .read-str .ensures)
+
+read-other-sql-mapping-requires : tie.Need-read-other-sql-mapping-requires
+read-other-sql-mapping-requires c κs = c .before .if1 .left
 
 same-length-2 : tie.Need-same-length-2
-same-length-2 c = c .before .before .read-sql-array-mapping .kept .1 .1 .0 ∙ c .before .before .before .before .before .before .before .read-u8 .kept .1 .1 .0
+same-length-2 c = c .before .before .read-other-sql-mapping .kept .1 .1 .0 ∙ c .before .before .before .before .before .before .before .before .read-u8 .kept .1 .1 .0
 
 returns-2 : tie.Need-returns-2
-unfolding SqlMapping
-returns-2 c = tags-in sqlMappings 2 _ _ _ _ (c .before .before .before .before .before .before .before .read-u8 .ensures) (c .before .before .before .before .match .keys2) refl (c .before .before .read-sql-array-mapping .ensures)
-
-same-length-3 : tie.Need-same-length-3
-same-length-3 c = c .before .before .read-numeric .kept .1 .1 .0 ∙ c .before .before .before .before .before .before .before .read-u8 .kept .1 .1 .0
-
-returns-3 : tie.Need-returns-3
-unfolding SqlMapping
-returns-3 c = tags-in sqlMappings 3 _ _ _ _ (c .before .before .before .before .before .before .before .read-u8 .ensures) (c .before .before .before .before .match .keys3) refl (c .before .before .read-numeric .ensures)
-
-same-length-4 : tie.Need-same-length-4
-same-length-4 c = c .before .before .before .read-u8 .kept .1 .1 .0
-
-returns-4 : tie.Need-returns-4
-unfolding SqlMapping
-returns-4 c = tags-in sqlMappings 4 _ _ _ _ (c .before .before .before .read-u8 .ensures) (c .match .keys4) refl (drive-nothing _ _)
-
-same-length-5 : tie.Need-same-length-5
-same-length-5 c = c .before .before .before .read-u8 .kept .1 .1 .0
-
-returns-5 : tie.Need-returns-5
-unfolding SqlMapping
-returns-5 c = tags-in sqlMappings 5 _ _ _ _ (c .before .before .before .read-u8 .ensures) (c .match .keys5) refl (drive-nothing _ _)
-
-same-length-6 : tie.Need-same-length-6
-same-length-6 c = c .before .before .before .before .read-u8 .kept .1 .1 .0
-
-returns-6 : tie.Need-returns-6
-unfolding SqlMapping
-returns-6 c = tags-wrong sqlMappings _ _ _ _ (c .before .before .before .before .read-u8 .ensures) (omega arith) (rw (c .refused .ensures))
+returns-2 c = c .before .before .read-other-sql-mapping .ensures _ refl (c .before .before .before .before .before .before .before .before .read-u8 .ensures)
 
 pub read-sql-mapping-spec : {M : Type 1} → statement M
 read-sql-mapping-spec =
@@ -69,18 +33,8 @@ read-sql-mapping-spec =
     (tie.spec
     read-u8-requires
     read-str-requires
-    read-sql-array-mapping-requires
-    read-numeric-requires
-    refused-requires
     same-length
     returns
+    read-other-sql-mapping-requires
     same-length-2
-    returns-2
-    same-length-3
-    returns-3
-    same-length-4
-    returns-4
-    same-length-5
-    returns-5
-    same-length-6
-    returns-6)
+    returns-2)

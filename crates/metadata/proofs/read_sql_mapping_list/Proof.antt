@@ -6,6 +6,7 @@ use mathlib.Core.Path.{_≡_, refl}
 use lib.ListN.{length}
 use borrow.Author.Needs.{needs}
 use Rattle.layout.proofs.Forms.{list-in, loop-on, loop-end}
+use Rattle.leaf.proofs.Handing.{anew-in}
 use Rattle.leaf.proofs.Still.{loop-refused}
 use Rattle.leaf.specs.Run.{run}
 use Rattle.leaf.specs.State.{state}
@@ -33,17 +34,20 @@ returns : tie.Need-returns Inv-loop μ-loop
 unfolding SqlMappingList
 returns c = list-in _ _ _ _ _ (c .before .before .before .before .before .before .read-count .ensures) (loop-refused _ _ _ _ (c .before .before .before .loop .inv .1) (c .if1 .taken))
 
+anew-requires : tie.Need-anew-requires Inv-loop μ-loop
+anew-requires c κs = tt
+
 read-sql-mapping-requires : tie.Need-read-sql-mapping-requires Inv-loop μ-loop
 read-sql-mapping-requires c κs = tt
 
 add-i : tie.Need-add-i Inv-loop μ-loop
-add-i c = omega arith
+add-i c = omega (arith, c .before .before .before .before .before .before .before .before .before .before .before .read-count .ok)
 
 loop-less : tie.Need-loop-less Inv-loop μ-loop
 loop-less c = omega arith
 
 loop-again : tie.Need-loop-again Inv-loop μ-loop
-loop-again c = (search (needs, c .before .before .before .before .before .before .before .loop .inv .0), loop-on _ _ SqlMapping _ _ _ _ (c .before .before .before .before .before .before .before .loop .inv .1) (c .before .before .before .before .before .before .loop-test .taken) (c .before .before .read-sql-mapping .ensures))
+loop-again c = (search (needs, c .before .before .before .before .before .before .before .before .loop .inv .0), loop-on _ _ SqlMapping _ _ _ _ (c .before .before .before .before .before .before .before .before .loop .inv .1) (c .before .before .before .before .before .before .before .loop-test .taken) (anew-in _ _ _ _ _ _ (c .before .before .before .before .anew .ensures) (c .before .before .read-sql-mapping .ensures)))
 
 same-length-2 : tie.Need-same-length-2 Inv-loop μ-loop
 same-length-2 c = search needs
@@ -62,6 +66,7 @@ read-sql-mapping-list-spec =
     loop-holds
     same-length
     returns
+    anew-requires
     read-sql-mapping-requires
     add-i
     loop-less

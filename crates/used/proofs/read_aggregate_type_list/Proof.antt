@@ -1,70 +1,23 @@
--- i items are read; the others are still to come.
-use Prim.Native.Nat.{_-_}
-use native.Mathlib.Nat.{sub-zero}
-use native.Mathlib.Omega.{arith}
-use mathlib.Core.Path.{_≡_, refl}
-use lib.ListN.{length}
-use borrow.Author.Needs.{needs}
-use Rattle.layout.proofs.Forms.{list-in, loop-on, loop-end}
-use Rattle.leaf.proofs.Still.{loop-refused}
-use Rattle.leaf.specs.Run.{run}
-use Rattle.leaf.specs.State.{state}
-use Rattle.layout.specs.Entities.{AggregateTypeList, AggregateType}
-use Rattle.layout.specs.Forms.{times}
+-- A count, then as many.
+use mathlib.Core.Path.{_∙_}
+use Rattle.layout.specs.Entities.{AggregateType, AggregateTypeList}
+use Rattle.layout.proofs.Forms.{list-in}
 use Rattle.used.proofs.read_aggregate_type_list.Statement.{statement}
 use Rattle.used.proofs.read_aggregate_type_list.Tie as tie
 
-abbrev Inv-loop : tie.InvT-loop
-Inv-loop s t₀ c₀ count i₀ t c i = (length t ≡ length t₀) × (run (times count AggregateType) s (state c₀ t₀) ≡ run (times (count - i) AggregateType) s (state c t))
-
-abbrev μ-loop : tie.MeasureT-loop
-μ-loop s t₀ c₀ count i₀ t c i = count - i
-
-read-count-requires : tie.Need-read-count-requires Inv-loop μ-loop
+read-count-requires : tie.Need-read-count-requires
 read-count-requires c κs = tt
 
-loop-holds : tie.Need-loop-holds Inv-loop μ-loop
-loop-holds c = (refl, simp sub-zero)
+read-used-types-requires : tie.Need-read-used-types-requires
+read-used-types-requires c κs = tt
 
-same-length : tie.Need-same-length Inv-loop μ-loop
-same-length c = search (needs, c .before .before .before .loop .inv .0)
+same-length : tie.Need-same-length
+same-length c = c .before .before .read-used-types .kept .1 .1 .0 ∙ c .before .before .before .before .before .before .read-count .kept .1 .1 .0
 
-returns : tie.Need-returns Inv-loop μ-loop
-unfolding AggregateTypeList
-returns c = list-in _ _ _ _ _ (c .before .before .before .before .before .before .read-count .ensures) (loop-refused _ _ _ _ (c .before .before .before .loop .inv .1) (c .if1 .taken))
-
-read-aggregate-type-requires : tie.Need-read-aggregate-type-requires Inv-loop μ-loop
-read-aggregate-type-requires c κs = tt
-
-add-i : tie.Need-add-i Inv-loop μ-loop
-add-i c = omega arith
-
-loop-less : tie.Need-loop-less Inv-loop μ-loop
-loop-less c = omega arith
-
-loop-again : tie.Need-loop-again Inv-loop μ-loop
-loop-again c = (search (needs, c .before .before .before .before .before .before .before .loop .inv .0), loop-on _ _ AggregateType _ _ _ _ (c .before .before .before .before .before .before .before .loop .inv .1) (c .before .before .before .before .before .before .loop-test .taken) (c .before .before .read-aggregate-type .ensures))
-
-same-length-2 : tie.Need-same-length-2 Inv-loop μ-loop
-same-length-2 c = search needs
-
-returns-2 : tie.Need-returns-2 Inv-loop μ-loop
-unfolding AggregateTypeList
-returns-2 c = list-in _ _ _ _ _ (c .before .before .before .before .read-count .ensures) (loop-end _ _ AggregateType _ _ _ (c .before .loop .inv .1) (c .loop-test .left))
+returns : tie.Need-returns
+unfolding AggregateType AggregateTypeList
+returns c = list-in AggregateType _ _ _ _ (c .before .before .before .before .before .before .read-count .ensures) (c .before .before .read-used-types .ensures)
 
 pub read-aggregate-type-list-spec : {M : Type 1} → statement M
 read-aggregate-type-list-spec =
-    tie.close
-    (tie.spec
-    Inv-loop
-    μ-loop
-    read-count-requires
-    loop-holds
-    same-length
-    returns
-    read-aggregate-type-requires
-    add-i
-    loop-less
-    loop-again
-    same-length-2
-    returns-2)
+    tie.close (tie.spec read-count-requires read-used-types-requires same-length returns)

@@ -1,23 +1,18 @@
--- The parts, one after the other.
-use mathlib.Core.Path.{_∙_}
+-- One, behind a text.
 use Rattle.layout.specs.Entities.{PgExternArgument}
-use Rattle.layout.proofs.Forms.{then-in}
+use Rattle.used.proofs.Times.{once}
 use Rattle.used.proofs.read_pg_extern_argument.Statement.{statement}
 use Rattle.used.proofs.read_pg_extern_argument.Tie as tie
 
-read-str-requires : tie.Need-read-str-requires
-read-str-requires c κs = tt
-
-read-used-type-requires : tie.Need-read-used-type-requires
-read-used-type-requires c κs = tt
+read-used-types-requires : tie.Need-read-used-types-requires
+read-used-types-requires c κs = tt
 
 same-length : tie.Need-same-length
-same-length c = c .before .before .read-used-type .kept .1 .1 .0 ∙ c .before .before .before .before .before .before .read-str .kept .1 .1 .0
+same-length c = c .before .before .read-used-types .kept .1 .1 .0
 
 returns : tie.Need-returns
 unfolding PgExternArgument
-returns c = then-in _ _ _ _ _ _ (c .before .before .before .before .before .before .read-str .ensures) (c .before .before .read-used-type .ensures)
+returns c = once _ _ _ _ (c .before .before .read-used-types .ensures)
 
 pub read-pg-extern-argument-spec : {M : Type 1} → statement M
-read-pg-extern-argument-spec =
-    tie.close (tie.spec read-str-requires read-used-type-requires same-length returns)
+read-pg-extern-argument-spec = tie.close (tie.spec read-used-types-requires same-length returns)

@@ -1,70 +1,23 @@
--- i items are read; the others are still to come.
-use Prim.Native.Nat.{_-_}
-use native.Mathlib.Nat.{sub-zero}
-use native.Mathlib.Omega.{arith}
-use mathlib.Core.Path.{_≡_, refl}
-use lib.ListN.{length}
-use borrow.Author.Needs.{needs}
-use Rattle.layout.proofs.Forms.{list-in, loop-on, loop-end}
-use Rattle.leaf.proofs.Still.{loop-refused}
-use Rattle.leaf.specs.Run.{run}
-use Rattle.leaf.specs.State.{state}
-use Rattle.layout.specs.Entities.{PgExternArgumentList, PgExternArgument}
-use Rattle.layout.specs.Forms.{times}
+-- A count, then as many.
+use mathlib.Core.Path.{_∙_}
+use Rattle.layout.specs.Entities.{PgExternArgument, PgExternArgumentList}
+use Rattle.layout.proofs.Forms.{list-in}
 use Rattle.used.proofs.read_pg_extern_argument_list.Statement.{statement}
 use Rattle.used.proofs.read_pg_extern_argument_list.Tie as tie
 
-abbrev Inv-loop : tie.InvT-loop
-Inv-loop s t₀ c₀ count i₀ t c i = (length t ≡ length t₀) × (run (times count PgExternArgument) s (state c₀ t₀) ≡ run (times (count - i) PgExternArgument) s (state c t))
-
-abbrev μ-loop : tie.MeasureT-loop
-μ-loop s t₀ c₀ count i₀ t c i = count - i
-
-read-count-requires : tie.Need-read-count-requires Inv-loop μ-loop
+read-count-requires : tie.Need-read-count-requires
 read-count-requires c κs = tt
 
-loop-holds : tie.Need-loop-holds Inv-loop μ-loop
-loop-holds c = (refl, simp sub-zero)
+read-used-types-requires : tie.Need-read-used-types-requires
+read-used-types-requires c κs = tt
 
-same-length : tie.Need-same-length Inv-loop μ-loop
-same-length c = search (needs, c .before .before .before .loop .inv .0)
+same-length : tie.Need-same-length
+same-length c = c .before .before .read-used-types .kept .1 .1 .0 ∙ c .before .before .before .before .before .before .read-count .kept .1 .1 .0
 
-returns : tie.Need-returns Inv-loop μ-loop
-unfolding PgExternArgumentList
-returns c = list-in _ _ _ _ _ (c .before .before .before .before .before .before .read-count .ensures) (loop-refused _ _ _ _ (c .before .before .before .loop .inv .1) (c .if1 .taken))
-
-read-pg-extern-argument-requires : tie.Need-read-pg-extern-argument-requires Inv-loop μ-loop
-read-pg-extern-argument-requires c κs = tt
-
-add-i : tie.Need-add-i Inv-loop μ-loop
-add-i c = omega arith
-
-loop-less : tie.Need-loop-less Inv-loop μ-loop
-loop-less c = omega arith
-
-loop-again : tie.Need-loop-again Inv-loop μ-loop
-loop-again c = (search (needs, c .before .before .before .before .before .before .before .loop .inv .0), loop-on _ _ PgExternArgument _ _ _ _ (c .before .before .before .before .before .before .before .loop .inv .1) (c .before .before .before .before .before .before .loop-test .taken) (c .before .before .read-pg-extern-argument .ensures))
-
-same-length-2 : tie.Need-same-length-2 Inv-loop μ-loop
-same-length-2 c = search needs
-
-returns-2 : tie.Need-returns-2 Inv-loop μ-loop
-unfolding PgExternArgumentList
-returns-2 c = list-in _ _ _ _ _ (c .before .before .before .before .read-count .ensures) (loop-end _ _ PgExternArgument _ _ _ (c .before .loop .inv .1) (c .loop-test .left))
+returns : tie.Need-returns
+unfolding PgExternArgument PgExternArgumentList
+returns c = list-in PgExternArgument _ _ _ _ (c .before .before .before .before .before .before .read-count .ensures) (c .before .before .read-used-types .ensures)
 
 pub read-pg-extern-argument-list-spec : {M : Type 1} → statement M
 read-pg-extern-argument-list-spec =
-    tie.close
-    (tie.spec
-    Inv-loop
-    μ-loop
-    read-count-requires
-    loop-holds
-    same-length
-    returns
-    read-pg-extern-argument-requires
-    add-i
-    loop-less
-    loop-again
-    same-length-2
-    returns-2)
+    tie.close (tie.spec read-count-requires read-used-types-requires same-length returns)

@@ -1,48 +1,16 @@
--- The parts, one after the other.
-use mathlib.Core.Path.{_∙_}
-use Rattle.layout.specs.Entities.{UsedType}
-use Rattle.layout.proofs.Forms.{then-in}
+-- One, with no name.
+use Rattle.used.proofs.Times.{once, unnamed}
 use Rattle.used.proofs.read_used_type.Statement.{statement}
 use Rattle.used.proofs.read_used_type.Tie as tie
 
-read-str-requires : tie.Need-read-str-requires
-read-str-requires c κs = tt
-
-read-str-requires-2 : tie.Need-read-str-requires-2
-read-str-requires-2 c κs = tt
-
-read-option-str-requires : tie.Need-read-option-str-requires
-read-option-str-requires c κs = tt
-
-read-bool-requires : tie.Need-read-bool-requires
-read-bool-requires c κs = tt
-
-read-option-str-requires-2 : tie.Need-read-option-str-requires-2
-read-option-str-requires-2 c κs = tt
-
-read-bool-requires-2 : tie.Need-read-bool-requires-2
-read-bool-requires-2 c κs = tt
-
-read-function-metadata-type-requires : tie.Need-read-function-metadata-type-requires
-read-function-metadata-type-requires c κs = tt
+read-used-types-requires : tie.Need-read-used-types-requires
+read-used-types-requires c κs = tt
 
 same-length : tie.Need-same-length
-same-length c = c .before .before .read-function-metadata-type .kept .1 .1 .0 ∙ c .before .before .before .before .before .before .read-bool2 .kept .1 .1 .0 ∙ c .before .before .before .before .before .before .before .before .before .before .read-option-str2 .kept .1 .1 .0 ∙ c .before .before .before .before .before .before .before .before .before .before .before .before .before .before .read-bool .kept .1 .1 .0 ∙ c .before .before .before .before .before .before .before .before .before .before .before .before .before .before .before .before .before .before .read-option-str .kept .1 .1 .0 ∙ c .before .before .before .before .before .before .before .before .before .before .before .before .before .before .before .before .before .before .before .before .before .before .read-str2 .kept .1 .1 .0 ∙ c .before .before .before .before .before .before .before .before .before .before .before .before .before .before .before .before .before .before .before .before .before .before .before .before .before .before .read-str .kept .1 .1 .0
+same-length c = c .before .before .read-used-types .kept .1 .1 .0
 
 returns : tie.Need-returns
-unfolding UsedType
-returns c = then-in _ _ _ _ _ _ (c .before .before .before .before .before .before .before .before .before .before .before .before .before .before .before .before .before .before .before .before .before .before .before .before .before .before .read-str .ensures) (then-in _ _ _ _ _ _ (c .before .before .before .before .before .before .before .before .before .before .before .before .before .before .before .before .before .before .before .before .before .before .read-str2 .ensures) (then-in _ _ _ _ _ _ (c .before .before .before .before .before .before .before .before .before .before .before .before .before .before .before .before .before .before .read-option-str .ensures) (then-in _ _ _ _ _ _ (c .before .before .before .before .before .before .before .before .before .before .before .before .before .before .read-bool .ensures) (then-in _ _ _ _ _ _ (c .before .before .before .before .before .before .before .before .before .before .read-option-str2 .ensures) (then-in _ _ _ _ _ _ (c .before .before .before .before .before .before .read-bool2 .ensures) (c .before .before .read-function-metadata-type .ensures))))))
+returns c = unnamed _ _ _ _ (once _ _ _ _ (c .before .before .read-used-types .ensures))
 
 pub read-used-type-spec : {M : Type 1} → statement M
-read-used-type-spec =
-    tie.close
-    (tie.spec
-    read-str-requires
-    read-str-requires-2
-    read-option-str-requires
-    read-bool-requires
-    read-option-str-requires-2
-    read-bool-requires-2
-    read-function-metadata-type-requires
-    same-length
-    returns)
+read-used-type-spec = tie.close (tie.spec read-used-types-requires same-length returns)

@@ -1,0 +1,24 @@
+-- What a function needs that hands its cursor on to another.
+use Prim.Native.Nat.{ℕ, _+_, _≤_, _<_}
+use native.Mathlib.Omega.{arith}
+use mathlib.Core.Bool.{Bool, true, false}
+use mathlib.Core.List.{List}
+use mathlib.Core.Path.{_≡_, refl, ap, _∙_}
+use lib.Dec.{eqb}
+use borrow.Author.Tests.{eqb-true, eqb-false}
+use Rattle.layout.specs.Layout.{Layout}
+use Rattle.leaf.specs.declared.Cursor.{Cursor}
+use Rattle.leaf.specs.State.{State, state}
+use Rattle.leaf.specs.Run.{run}
+
+-- A reading from a cursor that was made anew
+pub anew-in : (L : Layout) (s table : List ℕ) (c c₁ : Cursor) (r : State) → c₁ ≡ c → r ≡ run L s (state c₁ table) → r ≡ run L s (state c table)
+anew-in L s table c c₁ r e q = q ∙ ap (λ (x : Cursor). run L s (state x table)) e
+
+-- A number from a on and below a + 2 is one of two: what holds in each case holds
+pub of-two : {G : Type 0} (a n : ℕ) → a ≤ n → n < a + 2 → (n ≡ a → G) → (n ≡ a + 1 → G) → G
+of-two {G = G} a n h l f g = go (eqb n a) refl
+  where
+    go : (x : Bool) → eqb n a ≡ x → G
+    go true e = f (eqb-true n a e)
+    go false e = g (omega (arith, eqb-false n a e))

@@ -2,3 +2,4 @@ pub mod Exact
 pub mod Codes
 pub mod Table
 pub mod Blocks
+pub mod Words

@@ -1,7 +1,7 @@
 // Whether bytes are UTF-8, as RFC 3629 defines it: what Rust asks of std::str::from_utf8.
 ghost use mathlib.Core.Path.{_≡_};
 ghost use mathlib.Core.Bool.{true};
-ghost use Prim.Native.Nat.{_+_, _≤_};
+ghost use Prim.Native.Nat.{_+_, _<_, _≤_};
 ghost use lib.ListN.{length};
 ghost use Rattle.text.specs.Walk.{run, utf8};
 ghost use Rattle.text.specs.States.{stateOf};
@@ -121,38 +121,75 @@ fn ascii_prefix(s: &[u8]) -> usize
     i
 }
 
-// Whether s, which is no longer than a block, is ASCII.
+// Whether s, which is no longer than a block, is ASCII: by its first and its last bytes, which overlap, so that the length of s
+// decides no loop.
 fn is_ascii_short(s: &[u8]) -> bool
     requires { ⌜ length (now s) ≤ 64 ⌝ }
     ensures { λ r. ⌜ (r ≡ true → Ascii (now (s .entry)) 0 (length (now (s .entry)))) ⌝ }
 {
     let n = s.len();
     if 32 <= n {
-        return is_ascii_ends(s, 32);
+        return high_bits_of_32(s, 0) | high_bits_of_32(s, n - 32) == 0;
     }
     if 16 <= n {
-        return is_ascii_ends(s, 16);
+        return high_bits_of_16(s, 0) | high_bits_of_16(s, n - 16) == 0;
     }
     if 8 <= n {
-        return is_ascii_ends(s, 8);
+        return high_bits(s, 0) | high_bits(s, n - 8) == 0;
     }
     if 4 <= n {
-        return is_ascii_ends(s, 4);
+        return high_bits_of_4(s, 0) | high_bits_of_4(s, n - 4) == 0;
     }
     is_ascii(s, 0, n)
 }
 
-// Whether s is ASCII, by its first and its last m bytes, which overlap where s is shorter than both: so the length of s
-// decides no loop.
-fn is_ascii_ends(s: &[u8], m: usize) -> bool
-    requires { ⌜ (m ≤ length (now s)) × (length (now s) ≤ m + m) ⌝ }
-    ensures { λ r. ⌜ (r ≡ true → Ascii (now (s .entry)) 0 (length (now (s .entry)))) ⌝ }
+// Each of these gathers the highest bits of the bytes from the place a on: 0 only where they are ASCII.
+fn high_bits_of_32(s: &[u8], a: usize) -> u64
+    requires { ⌜ a + 32 ≤ length (now s) ⌝ }
+    ensures { λ r. ⌜ (r ≡ 0 → Ascii (now (s .entry)) a (a + 32)) ⌝ }
 {
-    let n = s.len();
-    if !is_ascii(s, 0, m) {
-        return false;
-    }
-    is_ascii(s, n - m, n)
+    high_bits_of_16(s, a) | high_bits_of_16(s, a + 16)
+}
+
+fn high_bits_of_16(s: &[u8], a: usize) -> u64
+    requires { ⌜ a + 16 ≤ length (now s) ⌝ }
+    ensures { λ r. ⌜ (r ≡ 0 → Ascii (now (s .entry)) a (a + 16)) ⌝ }
+{
+    high_bits(s, a) | high_bits(s, a + 8)
+}
+
+// Eight bytes as one number, which the compiler takes at once.
+fn high_bits(s: &[u8], a: usize) -> u64
+    requires { ⌜ a + 8 ≤ length (now s) ⌝ }
+    ensures { λ r. ⌜ (r ≡ 0 → Ascii (now (s .entry)) a (a + 8)) ⌝ }
+{
+    let b = a + 1;
+    let c = a + 2;
+    let d = a + 3;
+    let e = a + 4;
+    let f = a + 5;
+    let g = a + 6;
+    let h = a + 7;
+    let low = wide(s[a]) + 0x100 * wide(s[b]) + 0x1_0000 * wide(s[c]) + 0x100_0000 * wide(s[d]);
+    let high = wide(s[e]) + 0x100 * wide(s[f]) + 0x1_0000 * wide(s[g]) + 0x100_0000 * wide(s[h]);
+    (low + 0x1_0000_0000 * high) & 0x8080_8080_8080_8080
+}
+
+fn high_bits_of_4(s: &[u8], a: usize) -> u64
+    requires { ⌜ a + 4 ≤ length (now s) ⌝ }
+    ensures { λ r. ⌜ (r ≡ 0 → Ascii (now (s .entry)) a (a + 4)) ⌝ }
+{
+    let b = a + 1;
+    let c = a + 2;
+    let d = a + 3;
+    let word = wide(s[a]) + 0x100 * wide(s[b]) + 0x1_0000 * wide(s[c]) + 0x100_0000 * wide(s[d]);
+    word & 0x8080_8080
+}
+
+fn wide(x: u8) -> u64
+    ensures { λ r. ⌜ (r ≡ x) × (r < 256) ⌝ }
+{
+    x as u64
 }
 
 // Whether the bytes of s from the place a up to e are ASCII. There is no early exit, so that the compiler can take many

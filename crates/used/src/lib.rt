@@ -64,17 +64,18 @@ pub fn read_aggregate_type_list(c: Cursor, s: &[u8], t: &mut [u32]) -> Cursor
 }
 
 // Some used types, each behind its name. One is read as a list of one, so that only this loop calls `one_used_type`: the
-// compiler then holds the cursor in registers.
+// compiler then holds the cursor in registers, and, since the part of the bytes is made here, their place and length too.
 fn read_used_types(c: Cursor, s: &[u8], t: &mut [u32], name: Name, count: usize) -> Cursor
     ensures { λ r. ⌜ state r (now (t .exit)) ≡ run (times count (named name then UsedType)) (now (s .entry)) (state c (now (t .entry))) ⌝ }
 {
+    let n = s.len();
     let mut c = c.anew();
     let mut i: usize = 0;
     while i < count {
         if c.refusal != 0 {
             return c;
         }
-        c = one_used_type(c, s, t, name);
+        c = one_used_type(c, &s[..n], t, name);
         i += 1;
     }
     c

@@ -2,8 +2,9 @@
 use Prim.Native.Nat.{_-_}
 use native.Mathlib.Nat.{sub-zero}
 use native.Mathlib.Omega.{arith}
-use mathlib.Core.Path.{_≡_, refl}
+use mathlib.Core.Path.{_≡_, refl, sym}
 use lib.ListN.{length}
+use lib.Seq.{length-take-le, take-length}
 use borrow.Author.Needs.{needs}
 use Rattle.layout.proofs.Forms.{loop-on, loop-end}
 use Rattle.leaf.proofs.Handing.{anew-in}
@@ -18,10 +19,10 @@ use Rattle.used.proofs.read_used_types.Statement.{statement}
 use Rattle.used.proofs.read_used_types.Tie as tie
 
 abbrev Inv-loop : tie.InvT-loop
-Inv-loop s t₀ name count c₀ i₀ t c i = (length t ≡ length t₀) × (run (times count (named name then UsedType)) s (state c₀ t₀) ≡ run (times (count - i) (named name then UsedType)) s (state c t))
+Inv-loop s t₀ name count n c₀ i₀ t c i = (length t ≡ length t₀) × (run (times count (named name then UsedType)) s (state c₀ t₀) ≡ run (times (count - i) (named name then UsedType)) s (state c t))
 
 abbrev μ-loop : tie.MeasureT-loop
-μ-loop s t₀ name count c₀ i₀ t c i = count - i
+μ-loop s t₀ name count n c₀ i₀ t c i = count - i
 
 anew-requires : tie.Need-anew-requires Inv-loop μ-loop
 anew-requires c κs = tt
@@ -35,6 +36,9 @@ same-length c = c .before .before .before .loop .inv .0
 returns : tie.Need-returns Inv-loop μ-loop
 returns c = anew-in _ _ _ _ _ _ (c .before .before .before .before .anew .ensures) (loop-refused _ _ _ _ (c .before .before .before .loop .inv .1) (c .if1 .taken))
 
+slice-aggregate-one-used-type : tie.Need-slice-aggregate-one-used-type Inv-loop μ-loop
+slice-aggregate-one-used-type c = sym (length-take-le _ _ (omega arith))
+
 one-used-type-requires : tie.Need-one-used-type-requires Inv-loop μ-loop
 one-used-type-requires c κs = tt
 
@@ -45,7 +49,8 @@ loop-less : tie.Need-loop-less Inv-loop μ-loop
 loop-less c = omega arith
 
 loop-again : tie.Need-loop-again Inv-loop μ-loop
-loop-again c = (search (needs, c .before .before .before .before .before .before .before .loop .inv .0), loop-on _ _ (named (c .before .before .before .before .before .before .before .before .before .before .before .args .name) then UsedType) _ _ _ _ (c .before .before .before .before .before .before .before .loop .inv .1) (c .before .before .before .before .before .before .loop-test .taken) (c .before .before .one-used-type .ensures))
+loop-again c =
+    (search (needs, c .before .before .before .before .before .before .before .before .loop .inv .0), loop-on _ _ (named (c .before .before .before .before .before .before .before .before .before .before .before .before .args .name) then UsedType) _ _ _ _ (c .before .before .before .before .before .before .before .before .loop .inv .1) (c .before .before .before .before .before .before .before .loop-test .taken) (rw take-length at (c .before .before .one-used-type .ensures)))
 
 same-length-2 : tie.Need-same-length-2 Inv-loop μ-loop
 same-length-2 c = c .before .loop .inv .0
@@ -63,6 +68,7 @@ read-used-types-spec =
     loop-holds
     same-length
     returns
+    slice-aggregate-one-used-type
     one-used-type-requires
     add-i
     loop-less

@@ -129,19 +129,29 @@ fn milliseconds<T>(work: impl FnOnce() -> T) -> (f64, T) {
     (start.elapsed().as_secs_f64() * 1e3, result)
 }
 
-/// Both on a section by turns. Returns the median times, ours and the Rust's.
+/// Both on a section by turns of one reading, or of as many as have 1 MiB. What the Rust has made is dropped outside of its time.
+/// Returns the median times, ours and the Rust's.
 fn race(name: &str, section: &[u8], goal: f64) -> (f64, f64) {
     let entities = decode_entities(section).expect("accepted").len();
     let mut table = vec![0; ffi::ROW_WIDTH * section.len()];
     let [0, 0, count, rows] = read(What::Section, section, &mut table) else { panic!("{name}: refused") };
     assert_eq!(count as usize, entities, "{name}: entities");
     table.truncate(ffi::ROW_WIDTH * rows as usize);
-    let (mut ours, mut theirs) = (Vec::new(), Vec::new());
-    for _ in 0..TURNS {
-        ours.push(milliseconds(|| assert_eq!(read(What::Section, black_box(section), &mut table)[2], count)).0);
+    let readings = (MIB / section.len()).max(1);
+    let mut our_reading = || {
+        let (time, answer) = milliseconds(|| read(What::Section, black_box(section), &mut table));
+        assert_eq!(answer, [0, 0, count, rows]);
+        time
+    };
+    let their_reading = || {
         let (time, result) = milliseconds(|| decode_entities(black_box(section)));
         assert_eq!(result.unwrap().len(), entities);
-        theirs.push(time);
+        time
+    };
+    let (mut ours, mut theirs) = (Vec::new(), Vec::new());
+    for _ in 0..TURNS {
+        ours.push((0..readings).map(|_| our_reading()).sum::<f64>() / readings as f64);
+        theirs.push((0..readings).map(|_| their_reading()).sum::<f64>() / readings as f64);
     }
     let ratio = median((0..TURNS).map(|turn| theirs[turn] / ours[turn]).collect());
     let (ours, theirs) = (median(ours), median(theirs));

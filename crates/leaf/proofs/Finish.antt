@@ -66,19 +66,19 @@ module _ (entities : ℕ) (s : List ℕ) (st : State) where
       finished-trailing h = rw (le-leb (length s) limit small, eq-eqb _ _ z, lt-leb (length s) (st .cursor .at) h)
 
       module _ (h : length s ≤ st .cursor .at) where
-        finished-short : st .cursor .short ≡ true → finished entities s st ≡ refusal 13 0 (st .table)
+        finished-short : st .cursor .short ≡ 1 → finished entities s st ≡ refusal 13 0 (st .table)
         unfolding finished
         finished-short e = rw (le-leb (length s) limit small, eq-eqb _ _ z, le-leb (length s) (st .cursor .at) h, e)
 
-        finished-whole : st .cursor .short ≡ false → st .cursor .rows ≤ wholeRows (st .table)
+        finished-whole : st .cursor .short ≡ 0 → st .cursor .rows ≤ wholeRows (st .table)
             → finished entities s st ≡ acceptance (record { entities = entities; leaves = st .cursor .rows; rows = take (rowWidth * st .cursor .rows) (st .table) }) (st .table)
         unfolding finished
         finished-whole e k = rw (le-leb (length s) limit small, eq-eqb _ _ z, le-leb (length s) (st .cursor .at) h, e, le-ltb (wholeRows (st .table)) (st .cursor .rows) k)
 
 -- A state at the end that has stored what is given, or is short of rows for it, is told through the table that it began with
 pub finished-told : (g : Given) (end : ℕ) (s table : List ℕ) (st : State) → length s ≤ limit → st .cursor .refusal ≡ 0 → length s ≤ st .cursor .at → length (st .table) ≡ length table
-    → (g .leaves ≤ wholeRows table → (st .cursor .rows ≡ g .leaves) × (st .cursor .short ≡ false) × (take (rowWidth * st .cursor .rows) (st .table) ≡ g .rows))
-    → (wholeRows table < g .leaves → st .cursor .short ≡ true)
+    → (g .leaves ≤ wholeRows table → (st .cursor .rows ≡ g .leaves) × (st .cursor .short ≡ 0) × (take (rowWidth * st .cursor .rows) (st .table) ≡ g .rows))
+    → (wholeRows table < g .leaves → st .cursor .short ≡ 1)
     → finished (g .entities) s st ≡ tell (ok g end) table
 finished-told g end s table st small z h l fit over = go (leb (g .leaves) (wholeRows table)) refl
   where

@@ -99,24 +99,24 @@ fills (x ∷ ls) st h =
     }
 
 -- If they do not fit, the cursor is short
-push-short : (x : Leaf) (st : State) → st .cursor .short ≡ true → push x st .cursor .short ≡ true
+push-short : (x : Leaf) (st : State) → st .cursor .short ≡ 1 → push x st .cursor .short ≡ 1
 push-short x st h = go (room st)
   where
-    go : (b : Bool) → cond b (st .cursor .short) true ≡ true
+    go : (b : Bool) → cond b (st .cursor .short) 1 ≡ 1
     go true = h
     go false = refl
 
-pub stays-short : (ls : List Leaf) (st : State) → st .cursor .short ≡ true → arriveAll ls st .cursor .short ≡ true
+pub stays-short : (ls : List Leaf) (st : State) → st .cursor .short ≡ 1 → arriveAll ls st .cursor .short ≡ 1
 stays-short [] st h = h
 stays-short (x ∷ ls) st h = stays-short ls (push x st) (push-short x st h)
 
-pub shorts : (ls : List Leaf) (st : State) → wholeRows (st .table) < st .cursor .rows + length ls → st .cursor .rows ≤ wholeRows (st .table) → arriveAll ls st .cursor .short ≡ true
+pub shorts : (ls : List Leaf) (st : State) → wholeRows (st .table) < st .cursor .rows + length ls → st .cursor .rows ≤ wholeRows (st .table) → arriveAll ls st .cursor .short ≡ 1
 shorts [] st h k = absurd (omega arith)
 shorts (x ∷ ls) st h k = go (room st) refl (λ a b. shorts ls (push x st) a b)
   where
     go : (b : Bool) → room st ≡ b
-        → (wholeRows (push x st .table) < push x st .cursor .rows + length ls → push x st .cursor .rows ≤ wholeRows (push x st .table) → arriveAll ls (push x st) .cursor .short ≡ true)
-        → arriveAll ls (push x st) .cursor .short ≡ true
+        → (wholeRows (push x st .table) < push x st .cursor .rows + length ls → push x st .cursor .rows ≤ wholeRows (push x st .table) → arriveAll ls (push x st) .cursor .short ≡ 1)
+        → arriveAll ls (push x st) .cursor .short ≡ 1
     go true e i =
         let m : st .cursor .rows < wholeRows (st .table) = ltb-true _ _ e in
         let (a, b, c) = push-fills x st m in

@@ -1,6 +1,6 @@
 -- The answer of a reading of one value alone, from where it stands at its end.
 use Prim.Native.Nat.{ℕ, _*_}
-use mathlib.Core.Bool.{cond, _||_}
+use mathlib.Core.Bool.{cond, not, _||_}
 use mathlib.Core.List.{List}
 use lib.Dec.{eqb, ltb, leb}
 use lib.ListN.{length, take}
@@ -29,7 +29,7 @@ finished entities s st =
     cond (leb (length s) limit)
     (cond (eqb (c .refusal) 0)
     (cond (leb (length s) (c .at))
-    (cond (c .short || ltb (wholeRows table) (c .rows)) (refusal 13 0 table)
+    (cond (not (eqb (c .short) 0) || ltb (wholeRows table) (c .rows)) (refusal 13 0 table)
     (acceptance (record { entities = entities; leaves = c .rows; rows = take (rowWidth * c .rows) table }) table))
     (refusal 12 (c .at) table))
     (refusal (c .refusal) (c .place) table))

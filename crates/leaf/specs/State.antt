@@ -22,7 +22,7 @@ state c table = record { cursor = c; table = table }
 
 -- The cursor of a reading that begins
 abbrev pub start : Cursor
-start = record { at = 0; rows = 0; refusal = 0; short = false; place = 0; value = 0 }
+start = record { at = 0; rows = 0; refusal = 0; short = 0; place = 0; value = 0 }
 
 -- The cursor at another place
 abbrev pub seek : (at : ℕ) → Cursor → Cursor
@@ -61,7 +61,7 @@ put row value next st =
       at = next;
       rows = cond (room st) (st .cursor .rows + 1) (st .cursor .rows);
       refusal = st .cursor .refusal;
-      short = cond (room st) (st .cursor .short) true;
+      short = cond (room st) (st .cursor .short) 1;
       place = st .cursor .place;
       value = value;
     })

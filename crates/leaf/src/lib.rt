@@ -38,12 +38,12 @@ pub enum Answer {
 }
 
 // Where a reading stands: `at`, the next byte; `rows`, the rows stored so far; `refusal`, 0 or the number of the refusal at
-// `place`; `short`, whether a row did not fit; `value`, the value of the leaf read last. A refused cursor reads nothing more.
+// `place`; `short`, 1 if a row did not fit, else 0; `value`, the value of the leaf read last. A refused cursor reads nothing more.
 pub struct Cursor {
     pub at: usize,
     pub rows: usize,
     pub refusal: u32,
-    pub short: bool,
+    pub short: u32,
     pub place: usize,
     pub value: usize,
 }
@@ -57,7 +57,7 @@ impl Cursor {
             at: 0,
             rows: 0,
             refusal: 0,
-            short: false,
+            short: 0,
             place: 0,
             value: 0,
         }
@@ -140,7 +140,7 @@ impl Cursor {
             at: next,
             rows,
             refusal: self.refusal,
-            short: true,
+            short: 1,
             place: self.place,
             value: value as usize,
         }
@@ -298,7 +298,7 @@ impl Cursor {
         if self.at < s.len() {
             return refuse(t, 12, self.at);
         }
-        if self.short {
+        if self.short != 0 {
             return refuse(t, 13, 0);
         }
         let rows = self.rows;

@@ -399,18 +399,18 @@ entities-fill (e ∷ es) st h =
     let i = entities-fill es (arriveAll (e .leaves) (seeks (e .at) st)) (omega (arith, f .rows, l)) in
     record { rows = omega (arith, i .rows, f .rows); short = i .short ∙ f .short; front = i .front ∙ rw (f .front, append-assoc) }
 
-stays : (es : List Placed) (st : State) → st .cursor .short ≡ true → arriveEntities es st .cursor .short ≡ true
+stays : (es : List Placed) (st : State) → st .cursor .short ≡ 1 → arriveEntities es st .cursor .short ≡ 1
 stays [] st h = h
 stays (e ∷ es) st h = stays es (arriveAll (e .leaves) (seeks (e .at) st)) (stays-short (e .leaves) (seeks (e .at) st) h)
 
-entities-short : (es : List Placed) (st : State) → wholeRows (st .table) < st .cursor .rows + leafCount es → st .cursor .rows ≤ wholeRows (st .table) → arriveEntities es st .cursor .short ≡ true
+entities-short : (es : List Placed) (st : State) → wholeRows (st .table) < st .cursor .rows + leafCount es → st .cursor .rows ≤ wholeRows (st .table) → arriveEntities es st .cursor .short ≡ 1
 entities-short [] st h k = absurd (omega arith)
 entities-short (e ∷ es) st h k = go (leb (st .cursor .rows + length (e .leaves)) (wholeRows (st .table))) refl (λ a b. entities-short es (arriveAll (e .leaves) (seeks (e .at) st)) a b)
   where
     go : (b : Bool) → leb (st .cursor .rows + length (e .leaves)) (wholeRows (st .table)) ≡ b
         → (wholeRows (arriveAll (e .leaves) (seeks (e .at) st) .table) < arriveAll (e .leaves) (seeks (e .at) st) .cursor .rows + leafCount es → arriveAll (e .leaves) (seeks (e .at) st) .cursor .rows ≤ wholeRows (arriveAll (e .leaves) (seeks (e .at) st) .table)
-        → arriveEntities es (arriveAll (e .leaves) (seeks (e .at) st)) .cursor .short ≡ true)
-        → arriveEntities es (arriveAll (e .leaves) (seeks (e .at) st)) .cursor .short ≡ true
+        → arriveEntities es (arriveAll (e .leaves) (seeks (e .at) st)) .cursor .short ≡ 1)
+        → arriveEntities es (arriveAll (e .leaves) (seeks (e .at) st)) .cursor .short ≡ 1
     go true q i =
         let m = leb-true _ _ q in
         let f = fills (e .leaves) (seeks (e .at) st) m in

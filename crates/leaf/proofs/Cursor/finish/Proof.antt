@@ -44,7 +44,7 @@ same-length-4 c = search needs
 
 returns-4 : tie.Need-returns-4
 unfolding finished
-returns-4 c = rw (le-leb _ _ (c .before .before .before .before .before .before .before .before .before .if1 .left), eq-eqb _ _ (c .before .before .before .before .before .before .before .if2 .left), le-leb _ _ (c .before .before .before .before .before .if3 .left), c .before .before .before .before .if4 .taken) (c .before .before .refuse4 .ensures)
+returns-4 c = rw (le-leb _ _ (c .before .before .before .before .before .before .before .before .before .before .if1 .left), eq-eqb _ _ (c .before .before .before .before .before .before .before .before .if2 .left), le-leb _ _ (c .before .before .before .before .before .before .if3 .left), ne-eqb _ _ (c .before .before .before .before .if4 .taken)) (c .before .before .refuse4 .ensures)
 
 refuse-requires-5 : tie.Need-refuse-requires-5
 refuse-requires-5 c κs = search needs
@@ -54,7 +54,7 @@ same-length-5 c = search needs
 
 returns-5 : tie.Need-returns-5
 unfolding finished
-returns-5 c = rw (le-leb _ _ (c .before .before .before .before .before .before .before .before .before .before .if1 .left), eq-eqb _ _ (c .before .before .before .before .before .before .before .before .if2 .left), le-leb _ _ (c .before .before .before .before .before .before .if3 .left), c .before .before .before .before .before .if4 .left, lt-ltb _ _ (c .before .before .before .before .if5 .taken)) (c .before .before .refuse5 .ensures)
+returns-5 c = rw (le-leb _ _ (c .before .before .before .before .before .before .before .before .before .before .before .if1 .left), eq-eqb _ _ (c .before .before .before .before .before .before .before .before .before .if2 .left), le-leb _ _ (c .before .before .before .before .before .before .before .if3 .left), eq-eqb _ _ (c .before .before .before .before .before .if4 .left), lt-ltb _ _ (c .before .before .before .before .if5 .taken)) (c .before .before .refuse5 .ensures)
 
 mul-clear-from : tie.Need-mul-clear-from
 mul-clear-from c = search needs
@@ -67,7 +67,7 @@ same-length-6 c = search needs
 
 returns-6 : tie.Need-returns-6
 unfolding finished cleared
-returns-6 c = rw (le-leb _ _ (c .before .before .before .before .before .before .before .before .before .before .if1 .left), eq-eqb _ _ (c .before .before .before .before .before .before .before .before .if2 .left), le-leb _ _ (c .before .before .before .before .before .before .if3 .left), c .before .before .before .before .before .if4 .left, le-ltb _ _ (c .before .before .before .before .if5 .left), c .before .before .clear-from .ensures)
+returns-6 c = rw (le-leb _ _ (c .before .before .before .before .before .before .before .before .before .before .before .if1 .left), eq-eqb _ _ (c .before .before .before .before .before .before .before .before .before .if2 .left), le-leb _ _ (c .before .before .before .before .before .before .before .if3 .left), eq-eqb _ _ (c .before .before .before .before .before .if4 .left), le-ltb _ _ (c .before .before .before .before .if5 .left), c .before .before .clear-from .ensures)
 
 pub finish-spec : {M : Type 1} → statement M
 finish-spec =

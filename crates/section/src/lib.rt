@@ -16,15 +16,15 @@ ghost use Rattle.section.specs.Section.{same, readSection, reading};
 ghost use Rattle.section.specs.Demand3.{Demand3};
 ghost use Rattle.section.specs.Private.{staged, closed, pastEntry, entryEnd, Walked, Walks};
 
-// The payload that yields nothing.
-pub const SECTION_SENTINEL_PAYLOAD: [u8; 9] = [0, 4, 0, 0, 0, 0x70, 0x67, 0x72, 0x78];
-
-// Its bytes as two numbers and a byte.
+// The payload that yields nothing, 00 04 00 00 00 70 67 72 78, as two numbers and a byte.
 const SENTINEL_FIRST: u32 = 0x0000_0400;
 
 const SENTINEL_SECOND: u32 = 0x7267_7000;
 
 const SENTINEL_LAST: u8 = 0x78;
+
+// Its length.
+const SENTINEL_SIZE: usize = 9;
 
 // How many bytes are looked at for zeros at a time.
 const BLOCK: usize = 64;
@@ -157,12 +157,12 @@ pub fn same(a: &[u8], b: &[u8]) -> bool
     true
 }
 
-// Whether the bytes from a place up to another are the sentinel: a payload of nine bytes, looked at as two numbers and a byte.
+// Whether the bytes from a place up to another are the sentinel. Most payloads have another length.
 fn is_sentinel(s: &[u8], begin: usize, end: usize) -> bool
     requires { ⌜ (begin ≤ end) × (end ≤ length (now s)) ⌝ ∗ ⌜ Bytes (now s) ⌝ }
     ensures { λ r. ⌜ r ≡ same (drop begin (take end (now (s .entry)))) sentinelBytes ⌝ }
 {
-    if end - begin != 9 {
+    if end - begin != SENTINEL_SIZE {
         return false;
     }
     if leaf::length_at(s, begin) != SENTINEL_FIRST {

@@ -163,6 +163,31 @@ fn race(name: &str, section: &[u8], goal: f64) -> (f64, f64) {
     (ours, theirs)
 }
 
+/// One section of 16 MiB beside sixteen of 1 MiB, read one after the other, each with bytes and a table of its own: the caches
+/// have as much to hold for both.
+fn growth() {
+    let large = entries(16 * MIB, function);
+    let small: Vec<Vec<u8>> = (0..16).map(|_| entries(MIB, function)).collect();
+    let mut large_table = vec![0; large.len()];
+    let mut small_tables = vec![vec![0; MIB]; 16];
+    let mut times = [const { Vec::new() }; 4];
+    for _ in 0..TURNS {
+        let (time, answer) = milliseconds(|| read(What::Section, &large, &mut large_table));
+        assert_eq!(answer[0], 0);
+        times[0].push(time);
+        let pairs = small.iter().zip(&mut small_tables);
+        times[1].push(pairs.map(|(bytes, table)| milliseconds(|| read(What::Section, bytes, table)).0).sum());
+        times[2].push(milliseconds(|| decode_entities(&large)).0);
+        times[3].push(small.iter().map(|bytes| milliseconds(|| decode_entities(bytes)).0).sum());
+    }
+    let [one, sixteen, their_one, their_sixteen] = times.map(median);
+    println!(
+        "One section of 16 MiB takes {:.2} times as long as sixteen of 1 MiB here, {:.2} times in the Rust.",
+        one / sixteen,
+        their_one / their_sixteen
+    );
+}
+
 fn main() {
     let mut random = Random(3629);
     println!("Milliseconds, medians of {TURNS} turns; the ratio of the medians, and the median of the turns' ratios.\n");
@@ -182,6 +207,7 @@ fn main() {
     let small = race("functions, 1 MiB", &entries(MIB, function), 3.0);
     let large = race("functions, 16 MiB", &entries(16 * MIB, function), 3.0);
     println!("\n16 times the bytes take {:.2} times as long here, {:.2} times in the Rust.", large.0 / small.0, large.1 / small.1);
+    growth();
 
     println!("\nThe path report on triggers, no two with the same path:\n");
     let most = if std::env::args().any(|word| word == "--paths") { 100_000 } else { 10_000 };

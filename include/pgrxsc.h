@@ -1,8 +1,9 @@
 /*
  * pgrxsc: a proved reader and writer of pgrx schema sections.
  *
- * Link the archive that `rt staticlib capi` makes (target/staticlib/libcapi.a). It needs no other library, reserves no memory,
- * keeps no state and writes nowhere but to what it is lent. So all functions may be called from several threads at a time.
+ * Link the archive that `rt staticlib capi` makes (target/staticlib/libcapi.a). It needs nothing but the C library's memset,
+ * reserves no memory, keeps no state and writes nowhere but to what it is lent. So all functions may be called from several
+ * threads at a time.
  *
  * Bytes and tables are lent as a pointer and a length; the length of a table counts its 32-bit numbers. A pointer must not be
  * NULL, also where the length is 0, and what a call may change must not overlap what else it is lent.

@@ -3,11 +3,11 @@ use leaf::Cursor;
 ghost use mathlib.Core.Path.{_≡_};
 ghost use Rattle.layout.specs.Entities.{PositioningRef, PositioningRefList, ToSqlConfig, ExternArg, ExternArgList, SearchPath, StrList};
 ghost use Rattle.layout.specs.Entities.{Operator, OptionOperator, Cast, OptionCast};
-ghost use Rattle.leaf.specs.State.{state};
+ghost use Rattle.leaf.specs.State.{readState};
 ghost use Rattle.leaf.specs.Run.{run};
 
 pub fn read_positioning_ref(c: Cursor, s: &[u8], t: &mut [u32]) -> Cursor
-    ensures { λ r. ⌜ state r (now (t .exit)) ≡ run PositioningRef (now (s .entry)) (state c (now (t .entry))) ⌝ }
+    ensures { λ r. ⌜ readState r (now (t .exit)) ≡ run PositioningRef (now (s .entry)) (readState c (now (t .entry))) ⌝ }
 {
     let at = c.at;
     let c = c.read_u8(s, t);
@@ -19,7 +19,7 @@ pub fn read_positioning_ref(c: Cursor, s: &[u8], t: &mut [u32]) -> Cursor
 }
 
 pub fn read_positioning_ref_list(c: Cursor, s: &[u8], t: &mut [u32]) -> Cursor
-    ensures { λ r. ⌜ state r (now (t .exit)) ≡ run PositioningRefList (now (s .entry)) (state c (now (t .entry))) ⌝ }
+    ensures { λ r. ⌜ readState r (now (t .exit)) ≡ run PositioningRefList (now (s .entry)) (readState c (now (t .entry))) ⌝ }
 {
     let mut c = c.read_count(s, t);
     let count = c.value;
@@ -35,7 +35,7 @@ pub fn read_positioning_ref_list(c: Cursor, s: &[u8], t: &mut [u32]) -> Cursor
 }
 
 pub fn read_to_sql_config(c: Cursor, s: &[u8], t: &mut [u32]) -> Cursor
-    ensures { λ r. ⌜ state r (now (t .exit)) ≡ run ToSqlConfig (now (s .entry)) (state c (now (t .entry))) ⌝ }
+    ensures { λ r. ⌜ readState r (now (t .exit)) ≡ run ToSqlConfig (now (s .entry)) (readState c (now (t .entry))) ⌝ }
 {
     let c = c.read_bool(s, t); // enabled
     c.read_option_str(s, t) // content
@@ -43,7 +43,7 @@ pub fn read_to_sql_config(c: Cursor, s: &[u8], t: &mut [u32]) -> Cursor
 
 // A function's attribute.
 pub fn read_extern_arg(c: Cursor, s: &[u8], t: &mut [u32]) -> Cursor
-    ensures { λ r. ⌜ state r (now (t .exit)) ≡ run ExternArg (now (s .entry)) (state c (now (t .entry))) ⌝ }
+    ensures { λ r. ⌜ readState r (now (t .exit)) ≡ run ExternArg (now (s .entry)) (readState c (now (t .entry))) ⌝ }
 {
     let at = c.at;
     let c = c.read_u8(s, t);
@@ -59,7 +59,7 @@ pub fn read_extern_arg(c: Cursor, s: &[u8], t: &mut [u32]) -> Cursor
 }
 
 pub fn read_extern_arg_list(c: Cursor, s: &[u8], t: &mut [u32]) -> Cursor
-    ensures { λ r. ⌜ state r (now (t .exit)) ≡ run ExternArgList (now (s .entry)) (state c (now (t .entry))) ⌝ }
+    ensures { λ r. ⌜ readState r (now (t .exit)) ≡ run ExternArgList (now (s .entry)) (readState c (now (t .entry))) ⌝ }
 {
     let mut c = c.read_count(s, t);
     let count = c.value;
@@ -75,7 +75,7 @@ pub fn read_extern_arg_list(c: Cursor, s: &[u8], t: &mut [u32]) -> Cursor
 }
 
 pub fn read_search_path(c: Cursor, s: &[u8], t: &mut [u32]) -> Cursor
-    ensures { λ r. ⌜ state r (now (t .exit)) ≡ run SearchPath (now (s .entry)) (state c (now (t .entry))) ⌝ }
+    ensures { λ r. ⌜ readState r (now (t .exit)) ≡ run SearchPath (now (s .entry)) (readState c (now (t .entry))) ⌝ }
 {
     let c = c.read_bool(s, t);
     if c.value != 0 {
@@ -85,7 +85,7 @@ pub fn read_search_path(c: Cursor, s: &[u8], t: &mut [u32]) -> Cursor
 }
 
 pub fn read_str_list(c: Cursor, s: &[u8], t: &mut [u32]) -> Cursor
-    ensures { λ r. ⌜ state r (now (t .exit)) ≡ run StrList (now (s .entry)) (state c (now (t .entry))) ⌝ }
+    ensures { λ r. ⌜ readState r (now (t .exit)) ≡ run StrList (now (s .entry)) (readState c (now (t .entry))) ⌝ }
 {
     let mut c = c.read_count(s, t);
     let count = c.value;
@@ -101,7 +101,7 @@ pub fn read_str_list(c: Cursor, s: &[u8], t: &mut [u32]) -> Cursor
 }
 
 pub fn read_operator(c: Cursor, s: &[u8], t: &mut [u32]) -> Cursor
-    ensures { λ r. ⌜ state r (now (t .exit)) ≡ run Operator (now (s .entry)) (state c (now (t .entry))) ⌝ }
+    ensures { λ r. ⌜ readState r (now (t .exit)) ≡ run Operator (now (s .entry)) (readState c (now (t .entry))) ⌝ }
 {
     let c = c.read_option_str(s, t); // opname
     let c = c.read_option_str(s, t); // commutator
@@ -113,7 +113,7 @@ pub fn read_operator(c: Cursor, s: &[u8], t: &mut [u32]) -> Cursor
 }
 
 pub fn read_option_operator(c: Cursor, s: &[u8], t: &mut [u32]) -> Cursor
-    ensures { λ r. ⌜ state r (now (t .exit)) ≡ run OptionOperator (now (s .entry)) (state c (now (t .entry))) ⌝ }
+    ensures { λ r. ⌜ readState r (now (t .exit)) ≡ run OptionOperator (now (s .entry)) (readState c (now (t .entry))) ⌝ }
 {
     let c = c.read_bool(s, t);
     if c.value != 0 {
@@ -123,7 +123,7 @@ pub fn read_option_operator(c: Cursor, s: &[u8], t: &mut [u32]) -> Cursor
 }
 
 pub fn read_cast(c: Cursor, s: &[u8], t: &mut [u32]) -> Cursor
-    ensures { λ r. ⌜ state r (now (t .exit)) ≡ run Cast (now (s .entry)) (state c (now (t .entry))) ⌝ }
+    ensures { λ r. ⌜ readState r (now (t .exit)) ≡ run Cast (now (s .entry)) (readState c (now (t .entry))) ⌝ }
 {
     let at = c.at;
     let c = c.read_u8(s, t);
@@ -135,7 +135,7 @@ pub fn read_cast(c: Cursor, s: &[u8], t: &mut [u32]) -> Cursor
 }
 
 pub fn read_option_cast(c: Cursor, s: &[u8], t: &mut [u32]) -> Cursor
-    ensures { λ r. ⌜ state r (now (t .exit)) ≡ run OptionCast (now (s .entry)) (state c (now (t .entry))) ⌝ }
+    ensures { λ r. ⌜ readState r (now (t .exit)) ≡ run OptionCast (now (s .entry)) (readState c (now (t .entry))) ⌝ }
 {
     let c = c.read_bool(s, t);
     if c.value != 0 {

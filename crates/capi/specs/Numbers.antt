@@ -1,10 +1,12 @@
 -- How an answer is told in four numbers: the refusal's number and place, or 0 and 0; then what is answered, or 0 and 0.
 use Prim.Native.Nat.{ℕ, _-_}
+use mathlib.Core.Bool.{cond}
 use mathlib.Core.List.{List, [], _∷_}
-use Rattle.layout.specs.Answers.{Answer, accepted, refused}
+use lib.Dec.{eqb}
+use lib.ListN.{getD}
+use Rattle.layout.specs.Answers.{Answer, Result}
 use Rattle.layout.specs.Reading.{Outcome, ok, refuse}
-use Rattle.parts.specs.declared.SqlPlace.{SqlPlace}
-use Rattle.parts.specs.declared.SqlPlace.the-variants.{Section, Buffer, Refused}
+use Rattle.parts.specs.SqlText.{SqlAnswer}
 use Rattle.length.specs.Length as length
 use Rattle.paths.specs.Paths as paths
 
@@ -12,10 +14,23 @@ use Rattle.paths.specs.Paths as paths
 abbrev pub refusalNumbers : (number place : ℕ) → List ℕ
 refusalNumbers number place = number ∷ place ∷ 0 ∷ 0 ∷ []
 
--- A reading: its entities and its rows
+-- A reading: the number and the place of a refusal; its entities and its rows
 abbrev pub answerNumbers : Answer → List ℕ
-answerNumbers (accepted entities rows) = 0 ∷ 0 ∷ entities ∷ rows ∷ []
-answerNumbers (refused number place) = refusalNumbers number place
+answerNumbers a = a .number ∷ a .place ∷ a .entities ∷ a .rows ∷ []
+
+-- The answer that four numbers tell: the number 0 is an acceptance
+abbrev pub answerIn : List ℕ → Answer
+answerIn ns = record {
+  accepts = eqb (getD ns 0 0) 0;
+  number = getD ns 0 0;
+  place = getD ns 1 0;
+  entities = getD ns 2 0;
+  rows = getD ns 3 0;
+}
+
+-- And with the table, the result of a reading
+abbrev pub resultIn : (numbers table : List ℕ) → Result
+resultIn ns table = record { answer = answerIn ns; table = table }
 
 -- A part of the bytes, from its start up to its end: its start and its length
 abbrev pub partNumbers : Outcome ℕ ℕ → List ℕ
@@ -23,21 +38,21 @@ partNumbers (ok start end) = 0 ∷ 0 ∷ start ∷ (end - start) ∷ []
 partNumbers (refuse number place) = refusalNumbers number place
 
 -- An SQL text: its start, in the bytes or in the buffer, and its length
-abbrev pub placeNumbers : SqlPlace → List ℕ
-placeNumbers (Section start len) = 0 ∷ 0 ∷ start ∷ len ∷ []
-placeNumbers (Buffer len) = 0 ∷ 0 ∷ 0 ∷ len ∷ []
-placeNumbers (Refused number place) = refusalNumbers number place
+abbrev pub placeNumbers : SqlAnswer → List ℕ
+placeNumbers a = a .number ∷ a .place ∷ a .start ∷ a .len ∷ []
 
 -- 1 if it stands in the buffer, else 0
-abbrev pub inBuffer : SqlPlace → ℕ
-inBuffer (Section start len) = 0
-inBuffer (Buffer len) = 1
-inBuffer (Refused number place) = 0
+abbrev pub inBuffer : SqlAnswer → ℕ
+inBuffer a = cond (a .buffered) 1 0
 
 -- A written length: the third number
 abbrev pub lengthNumbers : length.Length → List ℕ
 lengthNumbers (length.counted n) = 0 ∷ 0 ∷ n ∷ 0 ∷ []
 lengthNumbers (length.refused number place) = refusalNumbers number place
+
+-- The length that four numbers tell, or the refusal
+abbrev pub lengthTold : List ℕ → length.Length
+lengthTold ns = cond (eqb (getD ns 0 0) 0) (length.counted (getD ns 2 0)) (length.refused (getD ns 0 0) (getD ns 1 0))
 
 -- A path report, whose pairs are returned beside the numbers
 abbrev pub reportNumbers : paths.Report → List ℕ

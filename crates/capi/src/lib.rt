@@ -5,20 +5,26 @@ use length::Length;
 use parts::Row;
 use parts::SqlPlace;
 use paths::PathReport;
+ghost use mathlib.Core.Bool.{true};
+ghost use mathlib.Core.Logic.{_↔_};
 ghost use mathlib.Core.Path.{_≡_};
 ghost use Prim.Native.Nat.{_≤_};
 ghost use lib.ListN.{length};
+ghost use Rattle.text.specs.Rfc3629.{Utf8};
 ghost use Rattle.text.specs.Walk.{utf8};
 ghost use Rattle.layout.specs.Entities.{Entity, SqlMapping, FunctionMetadataType};
-ghost use Rattle.layout.specs.Alone.{readingAlone};
+ghost use Rattle.layout.specs.Alone.{ExactAlone};
+ghost use Rattle.layout.specs.ReadAlone.{readingAlone};
 ghost use Rattle.leaf.specs.Finish.{answerOf};
 ghost use Rattle.section.specs.Section.{reading};
+ghost use Rattle.section.specs.Demand3.{Demand3};
 ghost use Rattle.parts.specs.Parts.{rowText, sqlNameIn};
-ghost use Rattle.parts.specs.SqlText.{sqlText, filled, stands};
+ghost use Rattle.parts.specs.SqlText.{sqlText, filled, sqlAnswer, sqlAnswerOf};
 ghost use Rattle.paths.specs.Paths.{report, reportOf};
 ghost use Rattle.length.specs.Length.{lengthOf};
-ghost use Rattle.entry_writer.specs.Writing.{write, lengthIn, written};
-ghost use Rattle.capi.specs.Numbers.{answerNumbers, partNumbers, placeNumbers, inBuffer, lengthNumbers, reportNumbers, pairsIn};
+ghost use Rattle.entry_writer.specs.Writing.{measured, write, lengthIn, written};
+ghost use Rattle.entry_writer.specs.Refusals.{ExactLength, ExactWriting};
+ghost use Rattle.capi.specs.Numbers.{answerNumbers, resultIn, partNumbers, placeNumbers, inBuffer, lengthNumbers, lengthTold, reportNumbers, pairsIn};
 ghost use Rattle.capi.specs.Private.{toldPart};
 
 // Reads a whole section. The third number is that of entities, the fourth that of rows.
@@ -26,6 +32,7 @@ ghost use Rattle.capi.specs.Private.{toldPart};
 pub extern "C" fn pgrxsc_read_section(bytes: &[u8], table: &mut [u32], answer: &mut [u64; 4])
     ensures { λ r. ⌜ now (answer .exit) ≡ answerNumbers (reading (now (bytes .entry)) (now (table .entry)) .answer) ⌝ }
     ensures { λ r. ⌜ now (table .exit) ≡ reading (now (bytes .entry)) (now (table .entry)) .table ⌝ }
+    ensures { λ r. ⌜ Demand3 (now (bytes .entry)) (now (table .entry)) (resultIn (now (answer .exit)) (now (table .exit))) ⌝ }
 {
     *answer = answer_numbers(section::decode_entities(bytes, table));
 }
@@ -35,6 +42,7 @@ pub extern "C" fn pgrxsc_read_section(bytes: &[u8], table: &mut [u32], answer: &
 pub extern "C" fn pgrxsc_read_payload(bytes: &[u8], table: &mut [u32], answer: &mut [u64; 4])
     ensures { λ r. ⌜ now (answer .exit) ≡ answerNumbers (readingAlone Entity 1 (now (bytes .entry)) (now (table .entry)) .answer) ⌝ }
     ensures { λ r. ⌜ now (table .exit) ≡ readingAlone Entity 1 (now (bytes .entry)) (now (table .entry)) .table ⌝ }
+    ensures { λ r. ⌜ ExactAlone Entity 1 (now (bytes .entry)) (now (table .entry)) (resultIn (now (answer .exit)) (now (table .exit))) ⌝ }
 {
     *answer = answer_numbers(entity::decode_entity(bytes, table));
 }
@@ -44,6 +52,7 @@ pub extern "C" fn pgrxsc_read_payload(bytes: &[u8], table: &mut [u32], answer: &
 pub extern "C" fn pgrxsc_read_metadata(bytes: &[u8], table: &mut [u32], answer: &mut [u64; 4])
     ensures { λ r. ⌜ now (answer .exit) ≡ answerNumbers (readingAlone FunctionMetadataType 0 (now (bytes .entry)) (now (table .entry)) .answer) ⌝ }
     ensures { λ r. ⌜ now (table .exit) ≡ readingAlone FunctionMetadataType 0 (now (bytes .entry)) (now (table .entry)) .table ⌝ }
+    ensures { λ r. ⌜ ExactAlone FunctionMetadataType 0 (now (bytes .entry)) (now (table .entry)) (resultIn (now (answer .exit)) (now (table .exit))) ⌝ }
 {
     *answer = answer_numbers(metadata::decode_function_metadata_type(bytes, table));
 }
@@ -53,6 +62,7 @@ pub extern "C" fn pgrxsc_read_metadata(bytes: &[u8], table: &mut [u32], answer: 
 pub extern "C" fn pgrxsc_read_mapping(bytes: &[u8], table: &mut [u32], answer: &mut [u64; 4])
     ensures { λ r. ⌜ now (answer .exit) ≡ answerNumbers (readingAlone SqlMapping 0 (now (bytes .entry)) (now (table .entry)) .answer) ⌝ }
     ensures { λ r. ⌜ now (table .exit) ≡ readingAlone SqlMapping 0 (now (bytes .entry)) (now (table .entry)) .table ⌝ }
+    ensures { λ r. ⌜ ExactAlone SqlMapping 0 (now (bytes .entry)) (now (table .entry)) (resultIn (now (answer .exit)) (now (table .exit))) ⌝ }
 {
     *answer = answer_numbers(metadata::decode_sql_mapping(bytes, table));
 }
@@ -112,8 +122,8 @@ pub extern "C" fn pgrxsc_sql_text(
     buffer: &mut [u8],
     answer: &mut [u64; 4],
 ) -> u32
-    ensures { λ r. ⌜ r ≡ inBuffer (stands (sqlText (now (bytes .entry)) offset (length (now (buffer .entry))))) ⌝ }
-    ensures { λ r. ⌜ now (answer .exit) ≡ placeNumbers (stands (sqlText (now (bytes .entry)) offset (length (now (buffer .entry))))) ⌝ }
+    ensures { λ r. ⌜ r ≡ inBuffer (sqlAnswer (sqlText (now (bytes .entry)) offset (length (now (buffer .entry))))) ⌝ }
+    ensures { λ r. ⌜ now (answer .exit) ≡ placeNumbers (sqlAnswer (sqlText (now (bytes .entry)) offset (length (now (buffer .entry))))) ⌝ }
     ensures { λ r. ⌜ now (buffer .exit) ≡ filled (now (buffer .entry)) (sqlText (now (bytes .entry)) offset (length (now (buffer .entry)))) ⌝ }
 {
     let place = parts::place_sql_text(bytes, offset, buffer);
@@ -131,6 +141,7 @@ pub extern "C" fn pgrxsc_write_metadata(
 )
     ensures { λ r. ⌜ now (answer .exit) ≡ lengthNumbers (lengthIn (write FunctionMetadataType (now (rows .entry)) (now (text .entry)) (length (now (dest .entry))))) ⌝ }
     ensures { λ r. ⌜ now (dest .exit) ≡ written (write FunctionMetadataType (now (rows .entry)) (now (text .entry)) (length (now (dest .entry)))) (now (dest .entry)) ⌝ }
+    ensures { λ r. ⌜ ExactWriting FunctionMetadataType (now (rows .entry)) (now (text .entry)) (now (dest .entry)) (lengthTold (now (answer .exit))) (now (dest .exit)) ⌝ }
 {
     *answer = length_numbers(writer::encode_function_metadata_type(rows, text, dest));
 }
@@ -145,8 +156,27 @@ pub extern "C" fn pgrxsc_write_mapping(
 )
     ensures { λ r. ⌜ now (answer .exit) ≡ lengthNumbers (lengthIn (write SqlMapping (now (rows .entry)) (now (text .entry)) (length (now (dest .entry))))) ⌝ }
     ensures { λ r. ⌜ now (dest .exit) ≡ written (write SqlMapping (now (rows .entry)) (now (text .entry)) (length (now (dest .entry)))) (now (dest .entry)) ⌝ }
+    ensures { λ r. ⌜ ExactWriting SqlMapping (now (rows .entry)) (now (text .entry)) (now (dest .entry)) (lengthTold (now (answer .exit))) (now (dest .exit)) ⌝ }
 {
     *answer = length_numbers(writer::encode_sql_mapping(rows, text, dest));
+}
+
+// Measures a metadata record, from rows and lent text bytes, before it is written. The third number is its length.
+#[no_mangle]
+pub extern "C" fn pgrxsc_metadata_len(rows: &[u32], text: &[u8], answer: &mut [u64; 4])
+    ensures { λ r. ⌜ now (answer .exit) ≡ lengthNumbers (lengthIn (measured FunctionMetadataType (now (rows .entry)) (now (text .entry)))) ⌝ }
+    ensures { λ r. ⌜ ExactLength FunctionMetadataType (now (rows .entry)) (now (text .entry)) (lengthTold (now (answer .exit))) ⌝ }
+{
+    *answer = length_numbers(writer::function_metadata_type_len(rows, text));
+}
+
+// The same for a mapping.
+#[no_mangle]
+pub extern "C" fn pgrxsc_mapping_len(rows: &[u32], text: &[u8], answer: &mut [u64; 4])
+    ensures { λ r. ⌜ now (answer .exit) ≡ lengthNumbers (lengthIn (measured SqlMapping (now (rows .entry)) (now (text .entry)))) ⌝ }
+    ensures { λ r. ⌜ ExactLength SqlMapping (now (rows .entry)) (now (text .entry)) (lengthTold (now (answer .exit))) ⌝ }
+{
+    *answer = length_numbers(writer::sql_mapping_len(rows, text));
 }
 
 // The number of pairs of entities with the same full_path.
@@ -164,6 +194,7 @@ pub extern "C" fn pgrxsc_path_pairs(bytes: &[u8], answer: &mut [u64; 4]) -> u64
 #[no_mangle]
 pub extern "C" fn pgrxsc_is_text(bytes: &[u8]) -> bool
     ensures { λ r. ⌜ r ≡ utf8 (now (bytes .entry)) ⌝ }
+    ensures { λ r. ⌜ (r ≡ true) ↔ Utf8 (now (bytes .entry)) ⌝ }
 {
     text::is_utf8(bytes)
 }
@@ -191,7 +222,7 @@ fn part_numbers(number: u32, place: u32, end: u64, len: u64) -> [u64; 4]
 
 // Where an SQL text stands, as an answer.
 fn place_numbers(place: SqlPlace) -> [u64; 4]
-    ensures { λ r. ⌜ r ≡ placeNumbers place ⌝ }
+    ensures { λ r. ⌜ r ≡ placeNumbers (sqlAnswerOf place) ⌝ }
 {
     match place {
         SqlPlace::Section { start, len } => [0, 0, start as u64, len as u64],
@@ -202,7 +233,7 @@ fn place_numbers(place: SqlPlace) -> [u64; 4]
 
 // Whether it stands in the buffer: 1 or 0.
 fn in_buffer(place: SqlPlace) -> u32
-    ensures { λ r. ⌜ r ≡ inBuffer place ⌝ }
+    ensures { λ r. ⌜ r ≡ inBuffer (sqlAnswerOf place) ⌝ }
 {
     match place {
         SqlPlace::Section { start: _, len: _ } => 0,
@@ -219,7 +250,7 @@ fn length_numbers(length: Length) -> [u64; 4]
     ensures { λ r. ⌜ r ≡ lengthNumbers (lengthOf length) ⌝ }
 {
     match length {
-        Length::Bytes { count } => [0, 0, count as u64, 0],
+        Length::Counted { count } => [0, 0, count as u64, 0],
         Length::Refused { number, place } => [number as u64, place as u64, 0, 0],
     }
 }

@@ -14,6 +14,7 @@
 // - W is the writing of a metadata record, and w that of one mapping. The numbers are the destination's size, how many numbers
 //   the table has, and these; the bytes are the lent text. The answer is 0, 0 and the length, or a refusal's number and place;
 //   then the whole destination.
+// - V is the measuring of a metadata record, and v that of one mapping. They stand as W and w, with a destination of 0 bytes.
 //
 // A case that differs is printed, and below it what was answered. At the end stand how many cases were run and how many differ,
 // and the tally of the sections accepted and refused.
@@ -425,7 +426,7 @@ fn answer_other(
         b'Q' => sql_text(numbers, s, out),
         b'O' => objects(s, out),
         b'R' => path_report(s, out),
-        b'W' | b'w' => write(letter, numbers, s, out),
+        b'W' | b'w' | b'V' | b'v' => write(letter, numbers, s, out),
         _ => bad_case(out),
     }
 }
@@ -669,7 +670,7 @@ fn sql_part<'a>(s: &'a [u8], offset: u32, buffer: &'a [u8], out: &mut [u8; OUT_S
     put_bytes(out, end, buffer)
 }
 
-// A writing with the bytes of a case as the lent text.
+// A writing or a measuring, with the bytes of a case as the lent text.
 fn write(
     letter: u8,
     numbers: &[u32; CASE_NUMBERS],
@@ -699,15 +700,17 @@ fn write_with(
 }
 
 fn encode(letter: u8, rows: &[u32], text: &[u8], dest: &mut [u8]) -> Length {
-    if letter == b'W' {
-        return writer::encode_function_metadata_type(rows, text, dest);
+    match letter {
+        b'W' => writer::encode_function_metadata_type(rows, text, dest),
+        b'w' => writer::encode_sql_mapping(rows, text, dest),
+        b'V' => writer::function_metadata_type_len(rows, text),
+        _ => writer::sql_mapping_len(rows, text),
     }
-    writer::encode_sql_mapping(rows, text, dest)
 }
 
 fn spell_length(length: Length, out: &mut [u8; OUT_SIZE]) -> usize {
     match length {
-        Length::Bytes { count } => spell_accepted(count as u64, out),
+        Length::Counted { count } => spell_accepted(count as u64, out),
         Length::Refused { number, place } => put_refusal(out, 0, number, place),
     }
 }

@@ -13,7 +13,7 @@ use Rattle.layout.specs.Entities.{SqlMapping, sqlMappings, ArgumentSql, argumen
 use Rattle.layout.specs.Reading.{Outcome, ok, refuse, _>>=_, need, judged, enough, read}
 use Rattle.layout.specs.Machine.{verdictOn}
 use Rattle.layout.proofs.Equations.{after, read-nothing, read-case}
-use Rattle.leaf.specs.State.{State}
+use Rattle.leaf.specs.State.{ReadState}
 use Rattle.leaf.specs.Run.{reader, run}
 use Rattle.layout.proofs.Forms.{check-law}
 use Rattle.leaf.proofs.Still.{Refused, pass-refused}
@@ -51,19 +51,19 @@ tagged rows s at ls next h = go (enough s at 1) refl (sym (read-case Tag nothing
     go false e q = absurd (not-ok q)
 
 -- A result that was refused is not judged
-pub result-refused : (s : List ℕ) (st st₁ : State) → st₁ ≡ run ArgumentSql s st → Refused st₁ → st₁ ≡ run DeclaredSql s st
+pub result-refused : (s : List ℕ) (st st₁ : ReadState) → st₁ ≡ run ArgumentSql s st → Refused st₁ → st₁ ≡ run DeclaredSql s st
 unfolding DeclaredSql
 result-refused s st st₁ e h =
     check-law ArgumentSql resultVerdict (reader s) st st₁ st₁ e (sym (pass-refused s (verdictOn resultVerdict (read ArgumentSql s (st .cursor .at))) st st₁ h))
 
 -- Of a result that was read: its first byte, and where that is Ok the next
-module _ (s : List ℕ) (st st₁ : State) (e : st₁ ≡ run ArgumentSql s st) (z : st₁ .cursor .refusal ≡ 0) where
+module _ (s : List ℕ) (st st₁ : ReadState) (e : st₁ ≡ run ArgumentSql s st) (z : st₁ .cursor .refusal ≡ 0) where
   abbrev at : ℕ
   at = st .cursor .at
 
   was-read : (ls : List Leaf) × (next : ℕ) × (read ArgumentSql s at ≡ ok ls next)
   unfolding ArgumentSql
-  was-read = case-read Tag nothing (known unknown-tag argumentResults) (follows argumentResults) s st (sym (ap (λ (x : State). x .cursor .refusal) e) ∙ z)
+  was-read = case-read Tag nothing (known unknown-tag argumentResults) (follows argumentResults) s st (sym (ap (λ (x : ReadState). x .cursor .refusal) e) ∙ z)
 
   result : Tagged argumentResults s at (was-read .0) (was-read .1)
   unfolding ArgumentSql

@@ -2,12 +2,12 @@
 use leaf::Cursor;
 ghost use mathlib.Core.Path.{_≡_};
 ghost use Rattle.layout.specs.Entities.{SqlDeclared, SqlDeclaredList, DeclaredType, DeclaredSql};
-ghost use Rattle.leaf.specs.State.{state};
+ghost use Rattle.leaf.specs.State.{readState};
 ghost use Rattle.leaf.specs.Run.{run};
 
 // A declaration: its kind is judged only after its name.
 pub fn read_sql_declared(c: Cursor, s: &[u8], t: &mut [u32]) -> Cursor
-    ensures { λ r. ⌜ state r (now (t .exit)) ≡ run SqlDeclared (now (s .entry)) (state c (now (t .entry))) ⌝ }
+    ensures { λ r. ⌜ readState r (now (t .exit)) ≡ run SqlDeclared (now (s .entry)) (readState c (now (t .entry))) ⌝ }
 {
     let place = c.at;
     let c = c.read_u8(s, t);
@@ -21,7 +21,7 @@ pub fn read_sql_declared(c: Cursor, s: &[u8], t: &mut [u32]) -> Cursor
 }
 
 pub fn read_declared_type(c: Cursor, s: &[u8], t: &mut [u32]) -> Cursor
-    ensures { λ r. ⌜ state r (now (t .exit)) ≡ run DeclaredType (now (s .entry)) (state c (now (t .entry))) ⌝ }
+    ensures { λ r. ⌜ readState r (now (t .exit)) ≡ run DeclaredType (now (s .entry)) (readState c (now (t .entry))) ⌝ }
 {
     let c = c.read_str(s, t); // type_ident
     read_declared_sql(c, s, t) // sql
@@ -29,7 +29,7 @@ pub fn read_declared_type(c: Cursor, s: &[u8], t: &mut [u32]) -> Cursor
 
 // The result of a declaration: it is read whole, and then it must be a mapping As or Numeric.
 pub fn read_declared_sql(c: Cursor, s: &[u8], t: &mut [u32]) -> Cursor
-    ensures { λ r. ⌜ state r (now (t .exit)) ≡ run DeclaredSql (now (s .entry)) (state c (now (t .entry))) ⌝ }
+    ensures { λ r. ⌜ readState r (now (t .exit)) ≡ run DeclaredSql (now (s .entry)) (readState c (now (t .entry))) ⌝ }
 {
     let at = c.at;
     let c = metadata::read_argument_sql(c.anew(), s, t);
@@ -50,7 +50,7 @@ pub fn read_declared_sql(c: Cursor, s: &[u8], t: &mut [u32]) -> Cursor
 }
 
 pub fn read_sql_declared_list(c: Cursor, s: &[u8], t: &mut [u32]) -> Cursor
-    ensures { λ r. ⌜ state r (now (t .exit)) ≡ run SqlDeclaredList (now (s .entry)) (state c (now (t .entry))) ⌝ }
+    ensures { λ r. ⌜ readState r (now (t .exit)) ≡ run SqlDeclaredList (now (s .entry)) (readState c (now (t .entry))) ⌝ }
 {
     let mut c = c.read_count(s, t);
     let count = c.value;

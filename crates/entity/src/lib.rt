@@ -5,15 +5,16 @@ ghost use mathlib.Core.Path.{_≡_};
 ghost use Rattle.layout.specs.Entities.{FinalizeModify, OptionFinalizeModify};
 ghost use Rattle.layout.specs.Entities.{ParallelOption, OptionParallelOption, OptionUsedType, OptionAggregateTypeList};
 ghost use Rattle.layout.specs.Entities.{Entity, Schema, CustomSql, Function, PostgresType, PostgresEnum, OrdOrHash, Aggregate, Trigger};
-ghost use Rattle.layout.specs.Alone.{readingAlone, ExactAlone};
-ghost use Rattle.leaf.specs.State.{state};
+ghost use Rattle.layout.specs.Alone.{ExactAlone};
+ghost use Rattle.layout.specs.ReadAlone.{readingAlone};
+ghost use Rattle.leaf.specs.State.{readState};
 ghost use Rattle.leaf.specs.Run.{run};
 ghost use Rattle.leaf.specs.Finish.{resultOf};
 ghost use Rattle.entity.specs.Private.{NameFileLine, TypePaths, CustomSqlText, FunctionSignature, FunctionOrigin, FunctionOptions};
 ghost use Rattle.entity.specs.Private.{TypeFunctions, AggregateName, AggregateTypes, AggregateFunctions, MovingAggregate, AggregateOptions};
 
 pub fn read_finalize_modify(c: Cursor, s: &[u8], t: &mut [u32]) -> Cursor
-    ensures { λ r. ⌜ state r (now (t .exit)) ≡ run FinalizeModify (now (s .entry)) (state c (now (t .entry))) ⌝ }
+    ensures { λ r. ⌜ readState r (now (t .exit)) ≡ run FinalizeModify (now (s .entry)) (readState c (now (t .entry))) ⌝ }
 {
     let at = c.at;
     let c = c.read_u8(s, t);
@@ -25,7 +26,7 @@ pub fn read_finalize_modify(c: Cursor, s: &[u8], t: &mut [u32]) -> Cursor
 }
 
 pub fn read_option_finalize_modify(c: Cursor, s: &[u8], t: &mut [u32]) -> Cursor
-    ensures { λ r. ⌜ state r (now (t .exit)) ≡ run OptionFinalizeModify (now (s .entry)) (state c (now (t .entry))) ⌝ }
+    ensures { λ r. ⌜ readState r (now (t .exit)) ≡ run OptionFinalizeModify (now (s .entry)) (readState c (now (t .entry))) ⌝ }
 {
     let c = c.read_bool(s, t);
     if c.value != 0 {
@@ -35,7 +36,7 @@ pub fn read_option_finalize_modify(c: Cursor, s: &[u8], t: &mut [u32]) -> Cursor
 }
 
 pub fn read_parallel_option(c: Cursor, s: &[u8], t: &mut [u32]) -> Cursor
-    ensures { λ r. ⌜ state r (now (t .exit)) ≡ run ParallelOption (now (s .entry)) (state c (now (t .entry))) ⌝ }
+    ensures { λ r. ⌜ readState r (now (t .exit)) ≡ run ParallelOption (now (s .entry)) (readState c (now (t .entry))) ⌝ }
 {
     let at = c.at;
     let c = c.read_u8(s, t);
@@ -47,7 +48,7 @@ pub fn read_parallel_option(c: Cursor, s: &[u8], t: &mut [u32]) -> Cursor
 }
 
 pub fn read_option_parallel_option(c: Cursor, s: &[u8], t: &mut [u32]) -> Cursor
-    ensures { λ r. ⌜ state r (now (t .exit)) ≡ run OptionParallelOption (now (s .entry)) (state c (now (t .entry))) ⌝ }
+    ensures { λ r. ⌜ readState r (now (t .exit)) ≡ run OptionParallelOption (now (s .entry)) (readState c (now (t .entry))) ⌝ }
 {
     let c = c.read_bool(s, t);
     if c.value != 0 {
@@ -57,7 +58,7 @@ pub fn read_option_parallel_option(c: Cursor, s: &[u8], t: &mut [u32]) -> Cursor
 }
 
 pub fn read_option_used_type(c: Cursor, s: &[u8], t: &mut [u32]) -> Cursor
-    ensures { λ r. ⌜ state r (now (t .exit)) ≡ run OptionUsedType (now (s .entry)) (state c (now (t .entry))) ⌝ }
+    ensures { λ r. ⌜ readState r (now (t .exit)) ≡ run OptionUsedType (now (s .entry)) (readState c (now (t .entry))) ⌝ }
 {
     let c = c.read_bool(s, t);
     if c.value != 0 {
@@ -67,7 +68,7 @@ pub fn read_option_used_type(c: Cursor, s: &[u8], t: &mut [u32]) -> Cursor
 }
 
 pub fn read_option_aggregate_type_list(c: Cursor, s: &[u8], t: &mut [u32]) -> Cursor
-    ensures { λ r. ⌜ state r (now (t .exit)) ≡ run OptionAggregateTypeList (now (s .entry)) (state c (now (t .entry))) ⌝ }
+    ensures { λ r. ⌜ readState r (now (t .exit)) ≡ run OptionAggregateTypeList (now (s .entry)) (readState c (now (t .entry))) ⌝ }
 {
     let c = c.read_bool(s, t);
     if c.value != 0 {
@@ -78,7 +79,7 @@ pub fn read_option_aggregate_type_list(c: Cursor, s: &[u8], t: &mut [u32]) -> Cu
 
 // One entity: its kind, then the fields of that kind.
 pub fn read_entity(c: Cursor, s: &[u8], t: &mut [u32]) -> Cursor
-    ensures { λ r. ⌜ state r (now (t .exit)) ≡ run Entity (now (s .entry)) (state c (now (t .entry))) ⌝ }
+    ensures { λ r. ⌜ readState r (now (t .exit)) ≡ run Entity (now (s .entry)) (readState c (now (t .entry))) ⌝ }
 {
     let at = c.at;
     let c = c.read_kind(s, t);
@@ -97,7 +98,7 @@ pub fn read_entity(c: Cursor, s: &[u8], t: &mut [u32]) -> Cursor
 }
 
 pub fn read_schema(c: Cursor, s: &[u8], t: &mut [u32]) -> Cursor
-    ensures { λ r. ⌜ state r (now (t .exit)) ≡ run Schema (now (s .entry)) (state c (now (t .entry))) ⌝ }
+    ensures { λ r. ⌜ readState r (now (t .exit)) ≡ run Schema (now (s .entry)) (readState c (now (t .entry))) ⌝ }
 {
     let c = c.read_str(s, t); // module_path
     let c = c.read_str(s, t); // name
@@ -106,7 +107,7 @@ pub fn read_schema(c: Cursor, s: &[u8], t: &mut [u32]) -> Cursor
 }
 
 pub fn read_custom_sql(c: Cursor, s: &[u8], t: &mut [u32]) -> Cursor
-    ensures { λ r. ⌜ state r (now (t .exit)) ≡ run CustomSql (now (s .entry)) (state c (now (t .entry))) ⌝ }
+    ensures { λ r. ⌜ readState r (now (t .exit)) ≡ run CustomSql (now (s .entry)) (readState c (now (t .entry))) ⌝ }
 {
     let c = read_custom_sql_text(c, s, t);
     let c = c.read_bool(s, t); // bootstrap
@@ -116,7 +117,7 @@ pub fn read_custom_sql(c: Cursor, s: &[u8], t: &mut [u32]) -> Cursor
 }
 
 fn read_custom_sql_text(c: Cursor, s: &[u8], t: &mut [u32]) -> Cursor
-    ensures { λ r. ⌜ state r (now (t .exit)) ≡ run CustomSqlText (now (s .entry)) (state c (now (t .entry))) ⌝ }
+    ensures { λ r. ⌜ readState r (now (t .exit)) ≡ run CustomSqlText (now (s .entry)) (readState c (now (t .entry))) ⌝ }
 {
     let c = c.read_str(s, t); // sql
     let c = c.read_str(s, t); // module_path
@@ -127,7 +128,7 @@ fn read_custom_sql_text(c: Cursor, s: &[u8], t: &mut [u32]) -> Cursor
 }
 
 pub fn read_function(c: Cursor, s: &[u8], t: &mut [u32]) -> Cursor
-    ensures { λ r. ⌜ state r (now (t .exit)) ≡ run Function (now (s .entry)) (state c (now (t .entry))) ⌝ }
+    ensures { λ r. ⌜ readState r (now (t .exit)) ≡ run Function (now (s .entry)) (readState c (now (t .entry))) ⌝ }
 {
     let c = read_function_signature(c, s, t);
     let c = read_function_origin(c, s, t);
@@ -136,7 +137,7 @@ pub fn read_function(c: Cursor, s: &[u8], t: &mut [u32]) -> Cursor
 }
 
 fn read_function_signature(c: Cursor, s: &[u8], t: &mut [u32]) -> Cursor
-    ensures { λ r. ⌜ state r (now (t .exit)) ≡ run FunctionSignature (now (s .entry)) (state c (now (t .entry))) ⌝ }
+    ensures { λ r. ⌜ readState r (now (t .exit)) ≡ run FunctionSignature (now (s .entry)) (readState c (now (t .entry))) ⌝ }
 {
     let c = c.read_str(s, t); // name
     let c = c.read_str(s, t); // unaliased_name
@@ -147,7 +148,7 @@ fn read_function_signature(c: Cursor, s: &[u8], t: &mut [u32]) -> Cursor
 }
 
 fn read_function_origin(c: Cursor, s: &[u8], t: &mut [u32]) -> Cursor
-    ensures { λ r. ⌜ state r (now (t .exit)) ≡ run FunctionOrigin (now (s .entry)) (state c (now (t .entry))) ⌝ }
+    ensures { λ r. ⌜ readState r (now (t .exit)) ≡ run FunctionOrigin (now (s .entry)) (readState c (now (t .entry))) ⌝ }
 {
     let c = c.read_option_str(s, t); // schema
     let c = c.read_str(s, t); // file
@@ -155,7 +156,7 @@ fn read_function_origin(c: Cursor, s: &[u8], t: &mut [u32]) -> Cursor
 }
 
 fn read_function_options(c: Cursor, s: &[u8], t: &mut [u32]) -> Cursor
-    ensures { λ r. ⌜ state r (now (t .exit)) ≡ run FunctionOptions (now (s .entry)) (state c (now (t .entry))) ⌝ }
+    ensures { λ r. ⌜ readState r (now (t .exit)) ≡ run FunctionOptions (now (s .entry)) (readState c (now (t .entry))) ⌝ }
 {
     let c = attribute::read_extern_arg_list(c, s, t); // extern_attrs
     let c = attribute::read_search_path(c, s, t); // search_path
@@ -164,7 +165,7 @@ fn read_function_options(c: Cursor, s: &[u8], t: &mut [u32]) -> Cursor
 }
 
 pub fn read_type(c: Cursor, s: &[u8], t: &mut [u32]) -> Cursor
-    ensures { λ r. ⌜ state r (now (t .exit)) ≡ run PostgresType (now (s .entry)) (state c (now (t .entry))) ⌝ }
+    ensures { λ r. ⌜ readState r (now (t .exit)) ≡ run PostgresType (now (s .entry)) (readState c (now (t .entry))) ⌝ }
 {
     let c = read_name_file_line(c, s, t);
     let c = read_type_paths(c, s, t);
@@ -174,7 +175,7 @@ pub fn read_type(c: Cursor, s: &[u8], t: &mut [u32]) -> Cursor
 }
 
 fn read_name_file_line(c: Cursor, s: &[u8], t: &mut [u32]) -> Cursor
-    ensures { λ r. ⌜ state r (now (t .exit)) ≡ run NameFileLine (now (s .entry)) (state c (now (t .entry))) ⌝ }
+    ensures { λ r. ⌜ readState r (now (t .exit)) ≡ run NameFileLine (now (s .entry)) (readState c (now (t .entry))) ⌝ }
 {
     let c = c.read_str(s, t); // name, of a trigger its function_name
     let c = c.read_str(s, t); // file
@@ -182,7 +183,7 @@ fn read_name_file_line(c: Cursor, s: &[u8], t: &mut [u32]) -> Cursor
 }
 
 fn read_type_paths(c: Cursor, s: &[u8], t: &mut [u32]) -> Cursor
-    ensures { λ r. ⌜ state r (now (t .exit)) ≡ run TypePaths (now (s .entry)) (state c (now (t .entry))) ⌝ }
+    ensures { λ r. ⌜ readState r (now (t .exit)) ≡ run TypePaths (now (s .entry)) (readState c (now (t .entry))) ⌝ }
 {
     let c = c.read_str(s, t); // module_path
     let c = c.read_str(s, t); // full_path
@@ -190,7 +191,7 @@ fn read_type_paths(c: Cursor, s: &[u8], t: &mut [u32]) -> Cursor
 }
 
 fn read_type_functions(c: Cursor, s: &[u8], t: &mut [u32]) -> Cursor
-    ensures { λ r. ⌜ state r (now (t .exit)) ≡ run TypeFunctions (now (s .entry)) (state c (now (t .entry))) ⌝ }
+    ensures { λ r. ⌜ readState r (now (t .exit)) ≡ run TypeFunctions (now (s .entry)) (readState c (now (t .entry))) ⌝ }
 {
     let c = c.read_str(s, t); // in_fn_path
     let c = c.read_str(s, t); // out_fn_path
@@ -199,7 +200,7 @@ fn read_type_functions(c: Cursor, s: &[u8], t: &mut [u32]) -> Cursor
 }
 
 pub fn read_enum(c: Cursor, s: &[u8], t: &mut [u32]) -> Cursor
-    ensures { λ r. ⌜ state r (now (t .exit)) ≡ run PostgresEnum (now (s .entry)) (state c (now (t .entry))) ⌝ }
+    ensures { λ r. ⌜ readState r (now (t .exit)) ≡ run PostgresEnum (now (s .entry)) (readState c (now (t .entry))) ⌝ }
 {
     let c = read_name_file_line(c, s, t);
     let c = read_type_paths(c, s, t);
@@ -208,7 +209,7 @@ pub fn read_enum(c: Cursor, s: &[u8], t: &mut [u32]) -> Cursor
 }
 
 pub fn read_ord_or_hash(c: Cursor, s: &[u8], t: &mut [u32]) -> Cursor
-    ensures { λ r. ⌜ state r (now (t .exit)) ≡ run OrdOrHash (now (s .entry)) (state c (now (t .entry))) ⌝ }
+    ensures { λ r. ⌜ readState r (now (t .exit)) ≡ run OrdOrHash (now (s .entry)) (readState c (now (t .entry))) ⌝ }
 {
     let c = read_name_file_line(c, s, t);
     let c = c.read_str(s, t); // full_path
@@ -218,7 +219,7 @@ pub fn read_ord_or_hash(c: Cursor, s: &[u8], t: &mut [u32]) -> Cursor
 }
 
 pub fn read_aggregate(c: Cursor, s: &[u8], t: &mut [u32]) -> Cursor
-    ensures { λ r. ⌜ state r (now (t .exit)) ≡ run Aggregate (now (s .entry)) (state c (now (t .entry))) ⌝ }
+    ensures { λ r. ⌜ readState r (now (t .exit)) ≡ run Aggregate (now (s .entry)) (readState c (now (t .entry))) ⌝ }
 {
     let c = read_aggregate_name(c, s, t);
     let c = read_aggregate_types(c, s, t);
@@ -229,7 +230,7 @@ pub fn read_aggregate(c: Cursor, s: &[u8], t: &mut [u32]) -> Cursor
 }
 
 fn read_aggregate_name(c: Cursor, s: &[u8], t: &mut [u32]) -> Cursor
-    ensures { λ r. ⌜ state r (now (t .exit)) ≡ run AggregateName (now (s .entry)) (state c (now (t .entry))) ⌝ }
+    ensures { λ r. ⌜ readState r (now (t .exit)) ≡ run AggregateName (now (s .entry)) (readState c (now (t .entry))) ⌝ }
 {
     let c = c.read_str(s, t); // full_path
     let c = c.read_str(s, t); // module_path
@@ -240,7 +241,7 @@ fn read_aggregate_name(c: Cursor, s: &[u8], t: &mut [u32]) -> Cursor
 }
 
 fn read_aggregate_types(c: Cursor, s: &[u8], t: &mut [u32]) -> Cursor
-    ensures { λ r. ⌜ state r (now (t .exit)) ≡ run AggregateTypes (now (s .entry)) (state c (now (t .entry))) ⌝ }
+    ensures { λ r. ⌜ readState r (now (t .exit)) ≡ run AggregateTypes (now (s .entry)) (readState c (now (t .entry))) ⌝ }
 {
     let c = used::read_aggregate_type_list(c, s, t); // args
     let c = read_option_aggregate_type_list(c, s, t); // direct_args
@@ -248,7 +249,7 @@ fn read_aggregate_types(c: Cursor, s: &[u8], t: &mut [u32]) -> Cursor
 }
 
 fn read_aggregate_functions(c: Cursor, s: &[u8], t: &mut [u32]) -> Cursor
-    ensures { λ r. ⌜ state r (now (t .exit)) ≡ run AggregateFunctions (now (s .entry)) (state c (now (t .entry))) ⌝ }
+    ensures { λ r. ⌜ readState r (now (t .exit)) ≡ run AggregateFunctions (now (s .entry)) (readState c (now (t .entry))) ⌝ }
 {
     let c = c.read_str(s, t); // sfunc
     let c = c.read_option_str(s, t); // finalfunc
@@ -260,7 +261,7 @@ fn read_aggregate_functions(c: Cursor, s: &[u8], t: &mut [u32]) -> Cursor
 }
 
 fn read_moving_aggregate(c: Cursor, s: &[u8], t: &mut [u32]) -> Cursor
-    ensures { λ r. ⌜ state r (now (t .exit)) ≡ run MovingAggregate (now (s .entry)) (state c (now (t .entry))) ⌝ }
+    ensures { λ r. ⌜ readState r (now (t .exit)) ≡ run MovingAggregate (now (s .entry)) (readState c (now (t .entry))) ⌝ }
 {
     let c = c.read_option_str(s, t); // msfunc
     let c = c.read_option_str(s, t); // minvfunc
@@ -271,7 +272,7 @@ fn read_moving_aggregate(c: Cursor, s: &[u8], t: &mut [u32]) -> Cursor
 }
 
 fn read_aggregate_options(c: Cursor, s: &[u8], t: &mut [u32]) -> Cursor
-    ensures { λ r. ⌜ state r (now (t .exit)) ≡ run AggregateOptions (now (s .entry)) (state c (now (t .entry))) ⌝ }
+    ensures { λ r. ⌜ readState r (now (t .exit)) ≡ run AggregateOptions (now (s .entry)) (readState c (now (t .entry))) ⌝ }
 {
     let c = c.read_option_str(s, t); // sortop
     let c = read_option_parallel_option(c, s, t); // parallel
@@ -279,7 +280,7 @@ fn read_aggregate_options(c: Cursor, s: &[u8], t: &mut [u32]) -> Cursor
 }
 
 pub fn read_trigger(c: Cursor, s: &[u8], t: &mut [u32]) -> Cursor
-    ensures { λ r. ⌜ state r (now (t .exit)) ≡ run Trigger (now (s .entry)) (state c (now (t .entry))) ⌝ }
+    ensures { λ r. ⌜ readState r (now (t .exit)) ≡ run Trigger (now (s .entry)) (readState c (now (t .entry))) ⌝ }
 {
     let c = read_name_file_line(c, s, t);
     let c = c.read_str(s, t); // module_path

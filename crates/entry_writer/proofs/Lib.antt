@@ -7,4 +7,5 @@ pub mod Measured
 pub mod Row
 pub mod Stored
 pub mod RoundTrips
+pub mod Exact
 pub mod Passes

@@ -9,18 +9,17 @@ use lib.Dec.{eqb, ltb, leb}
 use lib.ListN.{length, length-append}
 use borrow.Author.Tests.{eqb-true, eq-eqb, ne-eqb, leb-false, lt-leb}
 use Rattle.layout.specs.Layout.{Sort, Leaf, plain, string, Layout, Value, leaves, bound}
-use Rattle.layout.specs.Written.{leafBytes, bytesOf, bytes, rowWidth, sortNumber, sortAt, valueAt}
+use Rattle.layout.specs.Written.{textSort, leafBytes, bytesOf, bytes, rowWidth, sortNumber, sortAt, valueAt}
 use Rattle.layout.specs.Reading.{Outcome, ok, refuse, _>>=_, need, walk, leavesAt, utf8}
-use Rattle.layout.specs.Answers.{wholeRows}
-use Rattle.layout.specs.Alone.{limit}
+use Rattle.layout.specs.Answers.{limit, wholeRows}
 use Rattle.layout.proofs.Follow.{Gait, Keeps, pushAll, Follows, moved, stops, moved-of, stops-of, follow}
 use Rattle.length.specs.Length.{counted, refused}
 use Rattle.entry_writer.specs.Rows.{isRow, plainIn, lentAt, textIn, inRows, staysAt, goodAt, goodRows}
 use Rattle.entry_writer.specs.Writing.{fourteen, spelled, measured, lengthIn}
 use Rattle.entry_writer.specs.Refusals.{RowGives}
-use Rattle.entry_writer.specs.State.{start, stopped, refusedOnce, past, arrivePlain, pastText, arriveText, plainStep, textStep}
+use Rattle.entry_writer.specs.State.{newWriter, stoppedWriter, stoppedOnce, past, arrivePlain, pastText, arriveText, consumePlain, consumeText}
 use Rattle.entry_writer.specs.declared.EntryWriter.{EntryWriter}
-use Rattle.entry_writer.specs.Run.{writer, run, finished}
+use Rattle.entry_writer.specs.Run.{writer, consume, closing}
 use Rattle.entry_writer.proofs.Still.{goes-on, writer-still}
 use Rattle.entry_writer.proofs.Spelled.{plain-not-text, Given, given-there, whole-rows, walk-sound, good-sound}
 
@@ -55,8 +54,8 @@ module _ (rows text : List ℕ) where
   push-refusal (plain srt n) w = refl
   push-refusal (string t) w = text-refusal (passes t w) t w
 
-  plain-follows : (srt : Sort) (w : EntryWriter) → w .refusal ≡ 0 → Follows gait w (plainStep srt rows w) (plainIn rows srt (w .row) >>= λ n end. ok (plain srt n ∷ []) end)
-  unfolding plainStep
+  plain-follows : (srt : Sort) (w : EntryWriter) → w .refusal ≡ 0 → Follows gait w (consumePlain srt rows w) (plainIn rows srt (w .row) >>= λ n end. ok (plain srt n ∷ []) end)
+  unfolding consumePlain
   plain-follows srt w z =
       subst (λ (r : EntryWriter). Follows gait w r (plainIn rows srt (w .row) >>= λ n end. ok (plain srt n ∷ []) end)) (sym (goes-on _ w z))
       (go (isRow rows (w .row) (sortNumber srt)) (ltb (valueAt rows (w .row)) (bound srt)))
@@ -68,11 +67,11 @@ module _ (rows text : List ℕ) where
       go true false = stops refl
       go false b = stops refl
 
-  text-follows : (w : EntryWriter) → w .refusal ≡ 0 → Follows gait w (textStep rows text w) (textIn rows text (w .row) >>= λ t end. ok (string t ∷ []) end)
-  unfolding textStep
+  text-follows : (w : EntryWriter) → w .refusal ≡ 0 → Follows gait w (consumeText rows text w) (textIn rows text (w .row) >>= λ t end. ok (string t ∷ []) end)
+  unfolding consumeText
   text-follows w z =
       subst (λ (r : EntryWriter). Follows gait w r (textIn rows text (w .row) >>= λ t end. ok (string t ∷ []) end)) (sym (goes-on _ w z))
-      (go (isRow rows (w .row) 6))
+      (go (isRow rows (w .row) textSort))
     where
       go : (a : Bool)
           → Follows gait w (arriveText (staysAt rows text (w .row)) (need a 14 0 (ok (lentAt rows text (w .row)) (w .row + 1))) w)
@@ -88,13 +87,13 @@ module _ (rows text : List ℕ) where
     plainly = plain-follows;
     textly = text-follows;
     verdict = λ A j w. refl;
-    halts = λ f begin w z. let e : refusedOnce w ≡ stopped w = rw (eq-eqb (w .refusal) 0 z) in ap (λ r. r .refusal) e;
+    halts = λ f begin w z. let e : stoppedOnce w ≡ stoppedWriter w = rw (eq-eqb (w .refusal) 0 z) in ap (λ r. r .refusal) e;
     stopped = λ h z. let e : _≡_ {A = ℕ} 14 0 = sym h ∙ z in omega arith;
     before = λ x w r n p h. h;
   }
 
   -- A writing takes the leaves of the value that is read from the rows, or is refused
-  writes : (L : Layout) (w : EntryWriter) → w .refusal ≡ 0 → Follows gait w (run L rows text w) (leavesAt (inRows rows text) L (w .row))
+  writes : (L : Layout) (w : EntryWriter) → w .refusal ≡ 0 → Follows gait w (consume L rows text w) (leavesAt (inRows rows text) L (w .row))
   writes L w z = follow (inRows rows text) (writer rows text) gait writer-keeps L w z
 
 not-and : (a b : Bool) → not (a && b) ≡ (not a || not b)
@@ -119,11 +118,11 @@ module _ (rows text : List ℕ) where
 
   -- A row of another sort is not asked
   plain-good : (srt : Sort) (i : ℕ) → sortAt rows i ≡ sortNumber srt → goodAt rows text i ≡ true
-  plain-good srt i e = rw (e, ne-eqb (sortNumber srt) 6 (plain-not-text srt))
+  plain-good srt i e = rw (e, ne-eqb (sortNumber srt) textSort (plain-not-text srt))
 
   -- A text is found good where its row is
   found-good : (t : List ℕ) (w : EntryWriter) → RowGives rows text (w .row) (string t) → passes rows text t w ≡ goodAt rows text (w .row)
-  found-good t w g = rw (eq-eqb (sortAt rows (w .row)) 6 (g .0), g .1)
+  found-good t w g = rw (eq-eqb (sortAt rows (w .row)) textSort (g .0), g .1)
 
   refusal-all : (ls : List Leaf) (w : EntryWriter) → pushAll (push rows text) ls w .refusal ≡ w .refusal
   refusal-all [] w = refl
@@ -177,10 +176,10 @@ module _ (rows text : List ℕ) where
 finished-by : (L : Layout) (rows text : List ℕ) (v : Value L) (end : ℕ) (w : EntryWriter) → w .refusal ≡ 0 → w .row ≡ end
     → (rowWidth * end ≡ length rows → w .bad ≡ not (goodRows rows text (wholeRows rows)))
     → (goodRows rows text (wholeRows rows) ≡ true → w .pos ≡ cap (length (bytes L v)))
-    → finished rows w
+    → closing rows w
     ≡ lengthIn (fourteen (need (eqb (rowWidth * end) (length rows)) 14 0 (ok v end)) >>= λ x e.
     need (goodRows rows text (wholeRows rows)) 15 0 (need (leb (length (bytes L x)) limit) 16 0 (ok (bytes L x) (length (bytes L x)))))
-unfolding finished
+unfolding closing
 finished-by L rows text v end w z r b p = rw (z, r) (whole (eqb (rowWidth * end) (length rows)) refl)
   where
     fit : (a : Bool) → leb (length (bytes L v)) limit ≡ a
@@ -202,31 +201,31 @@ finished-by L rows text v end w z r b p = rw (z, r) (whole (eqb (rowWidth * end)
     whole false e = refl
 
 -- The end of a writing that was refused
-finished-refused : (rows : List ℕ) (w : EntryWriter) → w .refusal ≡ 14 → finished rows w ≡ refused 14 0
-unfolding finished
+finished-refused : (rows : List ℕ) (w : EntryWriter) → w .refusal ≡ 14 → closing rows w ≡ refused 14 0
+unfolding closing
 finished-refused rows w e = rw e
 
 module _ (L : Layout) (rows text : List ℕ) where
-  by-outcome : (m : Outcome ℕ (Value L)) → walk (inRows rows text) L 0 ≡ m → Follows (gait rows text) start (run L rows text start) (m >>= λ v end. ok (leaves L v) end)
-      → finished rows (run L rows text start)
+  by-outcome : (m : Outcome ℕ (Value L)) → walk (inRows rows text) L 0 ≡ m → Follows (gait rows text) newWriter (consume L rows text newWriter) (m >>= λ v end. ok (leaves L v) end)
+      → closing rows (consume L rows text newWriter)
       ≡ lengthIn (fourteen (m >>= λ v end. need (eqb (rowWidth * end) (length rows)) 14 0 (ok v end)) >>= λ x e.
       need (goodRows rows text (wholeRows rows)) 15 0 (need (leb (length (bytes L x)) limit) 16 0 (ok (bytes L x) (length (bytes L x)))))
-  by-outcome (refuse n p) e f = finished-refused rows (run L rows text start) (stops-of f)
+  by-outcome (refuse n p) e f = finished-refused rows (consume L rows text newWriter) (stops-of f)
   by-outcome (ok v end) e f =
       let (q, r) = moved-of f in
       let (s, b) = walk-sound L rows text v end e in
       let ls = leaves L v in
       let n : end ≡ length ls = b .ends ∙ omega arith in
-      finished-by L rows text v end (run L rows text start)
-      (ap (λ (x : EntryWriter). x .refusal) q ∙ refusal-all rows text ls start) r
+      finished-by L rows text v end (consume L rows text newWriter)
+      (ap (λ (x : EntryWriter). x .refusal) q ∙ refusal-all rows text ls newWriter) r
       (λ w.
       let t : 0 + length ls ≡ wholeRows rows = omega (arith, whole-rows L rows text end (sym w)) in
-      ap (λ (x : EntryWriter). x .bad) q ∙ bad-end rows text ls start refl (b .gives) ∙ ap (λ (k : ℕ). not (goodRows rows text k)) t)
+      ap (λ (x : EntryWriter). x .bad) q ∙ bad-end rows text ls newWriter refl (b .gives) ∙ ap (λ (k : ℕ). not (goodRows rows text k)) t)
       (λ w.
       let t : 0 + length (bytesOf ls) ≡ length (bytesOf ls) = omega arith in
-      ap (λ (x : EntryWriter). x .pos) q ∙ pos-end rows text ls start 0 refl (b .gives) (λ k a i. good-sound rows text (wholeRows rows) w k (given-there rows text 0 ls (b .gives) k a i)) ∙ ap cap t)
+      ap (λ (x : EntryWriter). x .pos) q ∙ pos-end rows text ls newWriter 0 refl (b .gives) (λ k a i. good-sound rows text (wholeRows rows) w k (given-there rows text 0 ls (b .gives) k a i)) ∙ ap cap t)
 
 -- The measuring of a value: 14 to 16, or the length
-pub measured-law : (L : Layout) (rows text : List ℕ) → finished rows (run L rows text start) ≡ lengthIn (measured L rows text)
+pub measured-law : (L : Layout) (rows text : List ℕ) → closing rows (consume L rows text newWriter) ≡ lengthIn (measured L rows text)
 unfolding measured spelled
-measured-law L rows text = by-outcome L rows text (walk (inRows rows text) L 0) refl (writes rows text L start refl)
+measured-law L rows text = by-outcome L rows text (walk (inRows rows text) L 0) refl (writes rows text L newWriter refl)

@@ -2,20 +2,23 @@
 use Prim.Native.Nat.{ℕ}
 use native.Mathlib.Omega.{arith}
 use mathlib.Core.Bool.{Bool, true, false, cond}
-use mathlib.Core.List.{List}
-use mathlib.Core.Path.{_≡_, refl, sym, ap, _∙_}
+use mathlib.Core.List.{List, _++_}
+use mathlib.Core.Path.{_≡_, refl, sym, ap, subst, _∙_}
 use lib.Dec.{leb}
-use lib.ListN.{length}
-use Rattle.layout.specs.Layout.{Layout}
+use lib.ListN.{length, drop}
+use Rattle.layout.specs.Layout.{Layout, leaves}
+use Rattle.layout.specs.Written.{bytes}
 use Rattle.layout.specs.Reading.{Outcome, ok, refuse, _>>=_, need}
 use Rattle.length.specs.Length.{Length, counted, refused}
 use Rattle.entry_writer.specs.declared.EntryWriter.{EntryWriter}
 use Rattle.entry_writer.specs.Writing.{measured, write, fitting, lengthIn, written}
-use Rattle.entry_writer.specs.State.{start}
-use Rattle.entry_writer.specs.Run.{run, finished}
-use Rattle.entry_writer.specs.Stored.{stored}
+use Rattle.entry_writer.specs.State.{newWriter}
+use Rattle.entry_writer.specs.Run.{consume, closing}
+use Rattle.entry_writer.specs.Refusals.{Stores, ExactLength, ExactWriting}
 use Rattle.entry_writer.proofs.Measured.{measured-law}
-use Rattle.entry_writer.proofs.Stored.{stored-written}
+use Rattle.entry_writer.proofs.Spelled.{write-exact}
+use Rattle.entry_writer.proofs.Stored.{spells-gives}
+use Rattle.entry_writer.proofs.Exact.{exact-length, exact-as}
 
 -- 17 is all that comes after the length
 write-length : (L : Layout) (rows text : List ℕ) (size : ℕ) → fitting (lengthIn (measured L rows text)) size ≡ lengthIn (write L rows text size)
@@ -34,13 +37,19 @@ not-refused : (k n p : ℕ) → counted k ≡ refused n p → ⊥
 not-refused k n p z = let w : _≡_ {A = ℕ} 0 1 = cc in omega arith
 
 -- The first pass gives the length
-pub first-pass : (L : Layout) (rows text : List ℕ) (w r : EntryWriter) (l : Length) → w ≡ start → r ≡ run L rows text w → l ≡ finished rows r → l ≡ lengthIn (measured L rows text)
-first-pass L rows text w r l a b e = e ∙ ap (finished rows) (b ∙ ap (run L rows text) a) ∙ measured-law L rows text
+pub first-pass : (L : Layout) (rows text : List ℕ) (w r : EntryWriter) (l : Length) → w ≡ newWriter → r ≡ consume L rows text w → l ≡ closing rows r → (l ≡ lengthIn (measured L rows text)) × ExactLength L rows text l
+first-pass L rows text w r l a b e =
+    let q : l ≡ lengthIn (measured L rows text) = e ∙ ap (closing rows) (b ∙ ap (consume L rows text) a) ∙ measured-law L rows text in
+    (q, subst (ExactLength L rows text) (sym q) (exact-length L rows text))
 
 module _ (L : Layout) (rows text dest : List ℕ) (m l : Length) (e : m ≡ lengthIn (measured L rows text)) (f : l ≡ fitting m (length dest)) where
   -- The length and the destination that a writing promises
   abbrev Encoded : (after : List ℕ) → Type 0
-  Encoded after = (l ≡ lengthIn (write L rows text (length dest))) × (after ≡ written (write L rows text (length dest)) dest)
+  Encoded after =
+      (l ≡ lengthIn (write L rows text (length dest))) × ((after ≡ written (write L rows text (length dest)) dest) × ExactWriting L rows text dest l after)
+
+  encoded : (after : List ℕ) → l ≡ lengthIn (write L rows text (length dest)) → after ≡ written (write L rows text (length dest)) dest → Encoded after
+  encoded after x y = (x, (y, exact-as L rows text dest l after x y))
 
   whole : l ≡ lengthIn (write L rows text (length dest))
   whole = f ∙ ap (λ (x : Length). fitting x (length dest)) e ∙ write-length L rows text (length dest)
@@ -50,13 +59,21 @@ module _ (L : Layout) (rows text dest : List ℕ) (m l : Length) (e : m ≡ leng
   refused-whole n p q = go (write L rows text (length dest)) refl
     where
       go : (o : Outcome ℕ (List ℕ)) → write L rows text (length dest) ≡ o → Encoded dest
-      go (refuse a b) w = rw w (whole ∙ ap lengthIn w, refl)
+      go (refuse a b) w = encoded dest whole (rw w)
       go (ok b k) w = absurd (not-refused k n p (sym (ap lengthIn w) ∙ sym whole ∙ q))
 
   -- The second pass stores the bytes
-  pub second-pass : (n : ℕ) → l ≡ counted n → (after : List ℕ) → after ≡ stored rows text dest → Encoded after
+  pub second-pass : (n : ℕ) → l ≡ counted n → (after : List ℕ) → Stores rows text dest after → Encoded after
   second-pass n q after s = go (write L rows text (length dest)) refl
     where
+      by-rows : (b : List ℕ) (k : ℕ) → write L rows text (length dest) ≡ ok b k → after ≡ b ++ drop k dest
+      by-rows b k z =
+          let (v, g, good, x, y, small, fits) = write-exact L rows text (length dest) b k .0 z in
+          let m : k ≡ length (bytes L v) = y ∙ ap length x in
+          s (leaves L v) (spells-gives L rows text v g) good (omega arith)
+          ∙ ap (λ (c : List ℕ). c ++ drop (length (bytes L v)) dest) (sym x)
+          ∙ ap (λ (j : ℕ). b ++ drop j dest) (sym m)
+
       go : (o : Outcome ℕ (List ℕ)) → write L rows text (length dest) ≡ o → Encoded after
       go (refuse x y) z = absurd (not-refused n x y (sym q ∙ whole ∙ ap lengthIn z))
-      go (ok c k) z = rw z (whole ∙ ap lengthIn z, s ∙ stored-written L rows text dest c k z)
+      go (ok c k) z = encoded after whole (rw z (by-rows c k z))

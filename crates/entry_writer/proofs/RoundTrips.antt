@@ -8,10 +8,11 @@ use lib.Seq.{length-take-le, take-append-seam, getD-append-add}
 use borrow.Author.Tests.{le-leb}
 use Rattle.text.specs.Rfc3629.{Utf8}
 use Rattle.layout.specs.Layout.{Leaf, plain, string, Layout, Value, leaves, Fits}
-use Rattle.layout.specs.Written.{four, leafBytes, bytesOf, bytes, rowWidth, sortNumber, rowAt, rowsFrom, sortAt, offsetAt, valueAt}
+use Rattle.layout.specs.Written.{textSort, four, leafBytes, bytesOf, bytes, rowWidth, sortNumber, rowAt, rowsFrom, sortAt, offsetAt, valueAt}
 use Rattle.layout.specs.Reading.{ok}
-use Rattle.layout.specs.Answers.{Accepts, accepted, Result, wholeRows, acceptance}
-use Rattle.layout.specs.Alone.{given, readingAlone, Derives}
+use Rattle.layout.specs.Answers.{Answer, accepted, Result, wholeRows, acceptance}
+use Rattle.layout.specs.Alone.{given, Derives}
+use Rattle.layout.specs.ReadAlone.{readingAlone}
 use Rattle.layout.proofs.Alone.{alone-complete, alone-exact}
 use Rattle.layout.proofs.InBytes.{behind}
 use Rattle.layout.proofs.Rows.{rows-length}
@@ -20,14 +21,14 @@ use Rattle.layout.proofs.Walk.{meets-map}
 use Rattle.entry_writer.specs.Rows.{lentAt}
 use Rattle.entry_writer.specs.Writing.{write}
 use Rattle.entry_writer.specs.Refusals.{RowGives, Along, Sized, Spells, GoodText, GoodTexts}
-use Rattle.entry_writer.specs.Theorems.{Returns, Read-written, Write-read}
+use Rattle.entry_writer.specs.Theorems.{ReadsBack, Read-written, Write-read}
 use Rattle.entry_writer.proofs.Along.{along-at, along-map, along-both, along-also}
 use Rattle.entry_writer.proofs.Spelled.{plain-not-text, whole-rows, spells-proper, write-exact}
 
 -- A row gives a leaf, of a text all its bytes
 abbrev Holds : (rows text : List ℕ) → (row : ℕ) → Leaf → Type 0
 Holds rows text i (plain srt n) = RowGives rows text i (plain srt n)
-Holds rows text i (string t) = (sortAt rows i ≡ 6) × (valueAt rows i ≡ length t) × (lentAt rows text i ≡ t) × (offsetAt rows i + valueAt rows i ≤ length text)
+Holds rows text i (string t) = (sortAt rows i ≡ textSort) × (valueAt rows i ≡ length t) × (lentAt rows text i ≡ t) × (offsetAt rows i + valueAt rows i ≤ length text)
 
 abbrev HoldAll : (rows text : List ℕ) → (row : ℕ) → List Leaf → Type 0
 HoldAll rows text = Along (Holds rows text)
@@ -50,10 +51,10 @@ module _ (before after : List ℕ) (i a b c : ℕ) (l : length before ≡ rowWid
 row-holds : (before after s : List ℕ) (i at : ℕ) (x : Leaf) (rest : List ℕ) → length before ≡ rowWidth * i → drop at s ≡ leafBytes x ++ rest → Holds (before ++ (rowAt at x ++ after)) s i x
 row-holds before after s i at (plain srt n) rest l e = (first before after i (sortNumber srt) at n l, third before after i (sortNumber srt) at n l)
 row-holds before after s i at (string t) rest l e =
-    let o = second before after i 6 (at + 4) (length t) l in
-    let v = third before after i 6 (at + 4) (length t) l in
+    let o = second before after i textSort (at + 4) (length t) l in
+    let v = third before after i textSort (at + 4) (length t) l in
     let d : drop (at + 4) s ≡ t ++ rest = behind s at (four (length t)) (t ++ rest) (e ∙ append-assoc (four (length t)) t rest) in
-    (first before after i 6 (at + 4) (length t) l, v, rw (o, v, d) (take-append-seam t rest), rw (o, v) (omega (arith, ap length e, length-append (leafBytes (string t)) rest, length-drop at s)))
+    (first before after i textSort (at + 4) (length t) l, v, rw (o, v, d) (take-append-seam t rest), rw (o, v) (omega (arith, ap length e, length-append (leafBytes (string t)) rest, length-drop at s)))
 
 row-width : (at : ℕ) (x : Leaf) → length (rowAt at x) ≡ rowWidth
 row-width at (plain srt n) = refl
@@ -74,7 +75,7 @@ rows-hold (x ∷ ls) before after s i at rest l e =
     )
 
 -- What good rows that give leaves hold
-good-holds : (rows text : List ℕ) (i : ℕ) (x : Leaf) → (sortAt rows i ≡ 6 → GoodText rows text i) → RowGives rows text i x → Holds rows text i x
+good-holds : (rows text : List ℕ) (i : ℕ) (x : Leaf) → (sortAt rows i ≡ textSort → GoodText rows text i) → RowGives rows text i x → Holds rows text i x
 good-holds rows text i (plain srt n) h g = g
 good-holds rows text i (string t) h g =
     let (a, u) = h (g .0) in
@@ -86,7 +87,7 @@ holds-gives rows text i (plain srt n) h = h
 holds-gives rows text i (string t) h = (h .0, h .2)
 
 -- A row that holds a leaf which fits is good
-holds-good : (rows text : List ℕ) (i : ℕ) (x : Leaf) → Holds rows text i x × Fits x → sortAt rows i ≡ 6 → GoodText rows text i
+holds-good : (rows text : List ℕ) (i : ℕ) (x : Leaf) → Holds rows text i x × Fits x → sortAt rows i ≡ textSort → GoodText rows text i
 holds-good rows text i (plain srt n) h s = absurd (plain-not-text srt (sym (h .0 .0) ∙ s))
 holds-good rows text i (string t) h s = (h .0 .3, subst Utf8 (sym (h .0 .2)) (h .1 .0))
 
@@ -98,7 +99,7 @@ fits-sized (string t) h = tt
 record Alike (rows text other b : List ℕ) (i : ℕ) : Type 0 where
   sorts : sortAt other i ≡ sortAt rows i
   values : valueAt other i ≡ valueAt rows i
-  texts : sortAt rows i ≡ 6 → lentAt other b i ≡ lentAt rows text i
+  texts : sortAt rows i ≡ textSort → lentAt other b i ≡ lentAt rows text i
 
 alike : (rows text other b : List ℕ) (i : ℕ) (x : Leaf) → Holds rows text i x × Holds other b i x → Alike rows text other b i
 alike rows text other b i (plain srt n) (g, h) = record {
@@ -131,20 +132,17 @@ module _ (L : Layout) (s : List ℕ) (v : Value L) (d : Derives L s v) where
   rows-good i h =
       let hold : HoldAll (rowsFrom 0 ls) s 0 ls = subst (λ (t : List ℕ). HoldAll t s 0 ls) (append-nil (rowsFrom 0 ls)) (stored-hold []) in
       let w : wholeRows (rowsFrom 0 ls) ≡ length ls = whole-rows L (rowsFrom 0 ls) s (length ls) (rows-length 0 ls) in
-      along-at (λ k x. Holds (rowsFrom 0 ls) s k x × Fits x) (λ k. sortAt (rowsFrom 0 ls) k ≡ 6 → GoodText (rowsFrom 0 ls) s k) (holds-good (rowsFrom 0 ls) s) 0 ls
+      along-at (λ k x. Holds (rowsFrom 0 ls) s k x × Fits x) (λ k. sortAt (rowsFrom 0 ls) k ≡ textSort → GoodText (rowsFrom 0 ls) s k) (holds-good (rowsFrom 0 ls) s) 0 ls
       (along-also (Holds (rowsFrom 0 ls) s) Fits 0 ls hold (each-of Fits L v (d .proper))) i (omega arith) (omega arith)
 
   written-back : (size : ℕ) → length s ≤ size → write L (rowsFrom 0 ls) s size ≡ ok s (length s)
   written-back size h = write-exact L (rowsFrom 0 ls) s size s (length s) .1 (v, rows-spell, rows-good, sym (d .derives), refl, d .small, h)
 
-accepted-same : {a b c d : ℕ} → accepted a b ≡ accepted c d → b ≡ d
-accepted-same w = cc
-
 accepted-back : (L : Layout) (entities : ℕ) (s table : List ℕ) (r : Result) (n : ℕ) (v : Value L) → Derives L s v → r ≡ acceptance (given entities (leaves L v)) table
     → r .answer ≡ accepted entities n → (size : ℕ) → length s ≤ size → write L (take (rowWidth * n) (r .table)) s size ≡ ok s (length s)
 accepted-back L entities s table r n v d q a size h =
     let ls = leaves L v in
-    let m : n ≡ length ls = accepted-same (sym a ∙ ap (λ (y : Result). y .answer) q) in
+    let m : n ≡ length ls = ap (λ (y : Answer). y .rows) (sym a ∙ ap (λ (y : Result). y .answer) q) in
     let l : rowWidth * n ≡ length (rowsFrom 0 ls) = omega (arith, rows-length 0 ls) in
     let t : take (rowWidth * n) (r .table) ≡ rowsFrom 0 ls =
     ap (λ (y : Result). take (rowWidth * n) (y .table)) q
@@ -154,7 +152,7 @@ accepted-back L entities s table r n v d q a size h =
 pub write-read : Write-read
 write-read L entities s u table r n e a size h =
     let x = alone-exact L entities s u table in
-    let (v, d, fits) = x .accepts .0 (subst Accepts (sym a ∙ ap (λ (y : Result). y .answer) e) tt) in
+    let (v, d, fits) = x .accepts .0 (ap (λ (y : Result). y .answer .accepts) (sym e) ∙ ap (λ (y : Answer). y .accepts) a) in
     accepted-back L entities s table r n v d (e ∙ x .fits v d fits) a size h
 
 zero-beyond : (rows : List ℕ) (m k : ℕ) → length rows ≤ k → getD (rows ++ replicate m 0) k 0 ≡ 0
@@ -183,7 +181,7 @@ module _ (L : Layout) (rows text b : List ℕ) (v : Value L) (d : Derives L b v)
       along-at (λ k x. Holds rows text k x × Holds table b k x) (Alike rows text table b) (alike rows text table b) 0 spelt
       (along-both (Holds rows text) (Holds table b) 0 spelt given-hold (stored-hold L b v d zeros)) i (omega arith) (omega (arith, spelt-rows))
 
-  returned : (entities : ℕ) (table : List ℕ) → wholeRows rows ≤ wholeRows table → Returns rows text b entities (readingAlone L entities b table)
+  returned : (entities : ℕ) (table : List ℕ) → wholeRows rows ≤ wholeRows table → ReadsBack rows text b entities (readingAlone L entities b table)
   unfolding readingAlone
   returned entities table room =
       let zeros : List ℕ = replicate (length table - rowWidth * length spelt) 0 in

@@ -11,7 +11,7 @@ use borrow.Author.Tests.{not-true, not-false, le-leb, lt-leb, leb-true, leb-fals
 use Rattle.layout.specs.Written.{four, sortAt, offsetAt, valueAt}
 use Rattle.paste.specs.Pasted.{pasted}
 use Rattle.paste.proofs.Pasted.{set-pasted, pasted-append}
-use Rattle.entry_writer.specs.Stored.{bySort, textOf, rowLength, rowBytes, storedFrom}
+use Rattle.entry_writer.specs.Private.{bySort, textInside, rowLength, rowBytes, storedFrom}
 
 module _ (rows : List ℕ) (i sort : ℕ) (e : sort ≡ sortAt rows i) where
   -- The case of a sort
@@ -54,7 +54,7 @@ module _ (rows : List ℕ) (i sort : ℕ) (e : sort ≡ sortAt rows i) where
     unfolding rowBytes
     bytes-four h k = sort-four h k _ _ _
 
-    pub bytes-text : 5 < sort → rowBytes rows text i ≡ four (valueAt rows i) ++ textOf rows text i
+    pub bytes-text : 5 < sort → rowBytes rows text i ≡ four (valueAt rows i) ++ textInside rows text i
     unfolding rowBytes
     bytes-text h = sort-text h _ _ _
 
@@ -83,7 +83,7 @@ module _ (rows text : List ℕ) (i start n : ℕ) (p : start ≡ offsetAt rows i
     -- Only its length is stored
     pub text-left : not s ≡ true → mid ≡ pasted dest at (rowBytes rows text i)
     text-left k =
-        let t : textOf rows text i ≡ [] = rw (← p, ← q, ← b, not-true s k) in
+        let t : textInside rows text i ≡ [] = rw (← p, ← q, ← b, not-true s k) in
         m ∙ ap (pasted dest at) (ap four q ∙ sym (bytes-text rows i sort e text h ∙ ap (λ (x : List ℕ). four (valueAt rows i) ++ x) t))
 
     -- It is stored behind its length
@@ -94,7 +94,7 @@ module _ (rows text : List ℕ) (i start n : ℕ) (p : start ≡ offsetAt rows i
         let j = stays-within s (start + n) (length text) b k in
         let l : length x ≡ n = length-take-le n (drop start text) (omega (arith, length-drop start text)) in
         let w : start + n - start ≡ n = omega arith in
-        let t : textOf rows text i ≡ x = rw (← p, ← q, ← b, not-false s k) in
+        let t : textInside rows text i ≡ x = rw (← p, ← q, ← b, not-false s k) in
         f
         ∙ rw (w, m) (pasted-append dest at (four n) x (omega (arith, length-text rows i sort e h)))
         ∙ ap (pasted dest at) (ap (λ (y : ℕ). four y ++ x) q ∙ sym (bytes-text rows i sort e text h ∙ ap (λ (y : List ℕ). four (valueAt rows i) ++ y) t))

@@ -10,15 +10,14 @@ use borrow.Author.Tests.{eqb-true, eqb-false, eq-eqb, ltb-true, lt-ltb, leb-true
 use Rattle.text.specs.Rfc3629.{Utf8}
 use Rattle.text.proofs.Exact.{utf8-exact}
 use Rattle.layout.specs.Layout.{Sort, Kind, Tag, Flag, Number, Count, Leaf, plain, string, Layout, Value, leaves, Meets, bound, Fits}
-use Rattle.layout.specs.Written.{leafBytes, bytesOf, bytes, rowWidth, sortNumber, sortAt}
+use Rattle.layout.specs.Written.{textSort, leafBytes, bytesOf, bytes, rowWidth, sortNumber, sortAt}
 use Rattle.layout.specs.Reading.{Outcome, ok, refuse, _>>=_, need, walk, utf8}
-use Rattle.layout.specs.Answers.{wholeRows}
-use Rattle.layout.specs.Alone.{limit}
+use Rattle.layout.specs.Answers.{limit, wholeRows}
 use Rattle.layout.proofs.Each.{Each, each-of, meets-each}
 use Rattle.layout.proofs.Walk.{All, given, refused, all-ok, all-bind, all-need, all-when, Sound, Complete, sound, complete}
 use Rattle.entry_writer.specs.Rows.{isRow, lentAt, inRows, staysAt, goodAt, goodRows}
 use Rattle.entry_writer.specs.Writing.{fourteen, spelled, measured, write}
-use Rattle.entry_writer.specs.Refusals.{RowGives, Along, Sized, Spells, GoodText, GoodTexts, Refusal, not-spelled, bad-text, too-long, no-space}
+use Rattle.entry_writer.specs.Refusals.{RowGives, Along, Sized, Spells, GoodText, GoodTexts, WriteRefusal, not-spelled, bad-text, too-long, no-space}
 use Rattle.entry_writer.proofs.Along.{along-join, along-part, along-at, along-map}
 use Rattle.entry_writer.specs.Theorems.{Write-exact, Spells-proper, Spells-unique, Write-refused}
 
@@ -27,7 +26,7 @@ pub is-row : (rows : List ℕ) (i sort : ℕ) → isRow rows i sort ≡ true →
 is-row rows i sort e = let (a, b) = and-eq-true-iff _ _ .0 e in (ltb-true _ _ a, eqb-true _ _ b)
 
 -- No number's sort is a text's
-pub plain-not-text : (srt : Sort) → sortNumber srt ≡ 6 → ⊥
+pub plain-not-text : (srt : Sort) → sortNumber srt ≡ textSort → ⊥
 plain-not-text Kind z = omega arith
 plain-not-text Tag z = omega arith
 plain-not-text Flag z = omega arith
@@ -65,7 +64,7 @@ module _ (rows text : List ℕ) where
         given (ltb-true _ _ f, record { gives = ((h, (k, refl)), tt); ends = refl });
     textly = λ i.
         all-need _ 14 0 _ λ e.
-        let (h, k) = is-row rows i 6 e in
+        let (h, k) = is-row rows i textSort e in
         given (tt, record { gives = ((h, (k, refl)), tt); ends = refl });
   }
 
@@ -82,7 +81,7 @@ module _ (rows text : List ℕ) where
     textly = λ {st} {end} t f h.
         let ((k, (s, v)), u) = h .gives in
         let e : st + 1 ≡ end = omega (arith, h .ends) in
-        rw (there-row st 6 k s, v, e);
+        rw (there-row st textSort k s, v, e);
   }
 
 all-fourteen : {A : Type 0} {P : A → ℕ → Type 0} (m : Outcome ℕ A) → All P m → All P (fourteen m)
@@ -126,17 +125,17 @@ module _ (L : Layout) (rows text : List ℕ) where
       go (refuse a b) e = (cc, cc)
 
 module _ (rows text : List ℕ) where
-  good-text : (i : ℕ) → sortAt rows i ≡ 6 → goodAt rows text i ≡ true → GoodText rows text i
+  good-text : (i : ℕ) → sortAt rows i ≡ textSort → goodAt rows text i ≡ true → GoodText rows text i
   unfolding utf8
   good-text i s e =
-      let (a, b) = and-eq-true-iff _ _ .0 (rw (eq-eqb (sortAt rows i) 6 s) at e) in
+      let (a, b) = and-eq-true-iff _ _ .0 (rw (eq-eqb (sortAt rows i) textSort s) at e) in
       (leb-true _ _ a, utf8-exact _ .0 b)
 
-  text-good : (i : ℕ) → (sortAt rows i ≡ 6 → GoodText rows text i) → goodAt rows text i ≡ true
+  text-good : (i : ℕ) → (sortAt rows i ≡ textSort → GoodText rows text i) → goodAt rows text i ≡ true
   unfolding utf8
-  text-good i h = go (eqb (sortAt rows i) 6) refl
+  text-good i h = go (eqb (sortAt rows i) textSort) refl
     where
-      go : (b : Bool) → eqb (sortAt rows i) 6 ≡ b → cond b (staysAt rows text i && utf8 (lentAt rows text i)) true ≡ true
+      go : (b : Bool) → eqb (sortAt rows i) textSort ≡ b → cond b (staysAt rows text i && utf8 (lentAt rows text i)) true ≡ true
       go true e = let (a, b) = h (eqb-true _ _ e) in rw (le-leb _ _ a, utf8-exact _ .1 b)
       go false e = refl
 
@@ -168,17 +167,17 @@ module _ (rows text : List ℕ) where
       go true q z l = (n, omega arith, z)
       go false q z l = let (i, h, k) = l q in (i, omega arith, k)
 
-  not-good : (i : ℕ) → goodAt rows text i ≡ false → (sortAt rows i ≡ 6) × (GoodText rows text i → ⊥)
-  not-good i e = (go (eqb (sortAt rows i) 6) refl, λ g. both (text-good i (λ s. g)))
+  not-good : (i : ℕ) → goodAt rows text i ≡ false → (sortAt rows i ≡ textSort) × (GoodText rows text i → ⊥)
+  not-good i e = (go (eqb (sortAt rows i) textSort) refl, λ g. both (text-good i (λ s. g)))
     where
       both : goodAt rows text i ≡ true → ⊥
       both q = let z : _≡_ {A = Bool} true false = sym q ∙ e in let w : _≡_ {A = ℕ} 1 0 = ap (λ (b : Bool). cond b 1 0) z in omega arith
 
-      go : (b : Bool) → eqb (sortAt rows i) 6 ≡ b → sortAt rows i ≡ 6
+      go : (b : Bool) → eqb (sortAt rows i) textSort ≡ b → sortAt rows i ≡ textSort
       go true q = eqb-true _ _ q
       go false q = absurd (both (rw q))
 
-  pub not-all-good : goodRows rows text (wholeRows rows) ≡ false → (i : ℕ) × (i < wholeRows rows) × (sortAt rows i ≡ 6) × (GoodText rows text i → ⊥)
+  pub not-all-good : goodRows rows text (wholeRows rows) ≡ false → (i : ℕ) × (i < wholeRows rows) × (sortAt rows i ≡ textSort) × (GoodText rows text i → ⊥)
   not-all-good e = let (i, h, k) = bad-row (wholeRows rows) e in let (s, g) = not-good i k in (i, h, s, g)
 
 -- Leaves that are sized, whose texts are good and not too long, fit
@@ -203,12 +202,12 @@ module _ (L : Layout) (rows text : List ℕ) (size : ℕ) where
   -- What a writing comes to
   data Judged : Outcome ℕ (List ℕ) → Type 0 where
     writes : {b : List ℕ} {n : ℕ} → (v : Value L) × Spells L rows text v × GoodTexts rows text × (b ≡ bytes L v) × (n ≡ length b) × (n ≤ limit) × (n ≤ size) → Judged (ok b n)
-    refuses : {n p : ℕ} → Refusal L rows text size n × (p ≡ 0) → Judged (refuse n p)
+    refuses : {n p : ℕ} → WriteRefusal L rows text size n × (p ≡ 0) → Judged (refuse n p)
 
   wrote : {b : List ℕ} {n : ℕ} → Judged (ok b n) → (v : Value L) × Spells L rows text v × GoodTexts rows text × (b ≡ bytes L v) × (n ≡ length b) × (n ≤ limit) × (n ≤ size)
   wrote (writes h) = h
 
-  refusing : {n p : ℕ} → Judged (refuse n p) → Refusal L rows text size n × (p ≡ 0)
+  refusing : {n p : ℕ} → Judged (refuse n p) → WriteRefusal L rows text size n × (p ≡ 0)
   refusing (refuses h) = h
 
   sized : (v : Value L) → Spells L rows text v → GoodTexts rows text → (a b : Bool) → leb (length (bytes L v)) limit ≡ a → leb (length (bytes L v)) size ≡ b
@@ -239,7 +238,7 @@ module _ (L : Layout) (rows text : List ℕ) (size : ℕ) where
   unfolding write measured
   spelled-write v s = rw (spelled-complete L rows text v s)
 
-  refusal-write : (n : ℕ) → Refusal L rows text size n → write L rows text size ≡ refuse n 0
+  refusal-write : (n : ℕ) → WriteRefusal L rows text size n → write L rows text size ≡ refuse n 0
   unfolding write measured
   refusal-write n (not-spelled h) = go (spelled L rows text) refl (spelled-sound L rows text)
     where

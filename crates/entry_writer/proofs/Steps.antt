@@ -9,20 +9,20 @@ use lib.ListN.{length, take, drop, length-append, length-drop}
 use lib.Seq.{length-take-le}
 use borrow.Author.Tests.{not-true, not-false, lt-ltb, le-ltb}
 use Rattle.layout.specs.Layout.{Sort, Kind, Tag, Flag, Number, Count, string}
-use Rattle.layout.specs.Written.{four, plainBytes, leafBytes, offsetAt, valueAt}
+use Rattle.layout.specs.Written.{textSort, four, plainBytes, leafBytes, offsetAt, valueAt}
 use Rattle.layout.specs.Reading.{Outcome, ok, refuse, utf8}
 use Rattle.layout.specs.Answers.{wholeRows}
 use Rattle.entry_writer.specs.declared.EntryWriter.{EntryWriter}
 use Rattle.entry_writer.specs.Rows.{isRow, textIn, staysAt}
-use Rattle.entry_writer.specs.State.{stopped, spoiled, past, arrivePlain, pastText, arriveText, guarded}
-use Rattle.entry_writer.specs.Private.{numberIn, land}
+use Rattle.entry_writer.specs.State.{stoppedWriter, spoiled, past, arrivePlain, pastText, arriveText, unlessRefused}
+use Rattle.entry_writer.specs.Private.{numberFrom, takeNumber}
 use Rattle.entry_writer.proofs.Still.{guarded-refused, goes-on}
 use Rattle.entry_writer.proofs.Spelled.{is-row}
 use Rattle.entry_writer.proofs.Row.{stays-within}
 use Rattle.text.specs.Walk as automaton
 
 -- A number lands as its sort arrives
-pub land-sort : (srt : Sort) (o : Outcome ℕ ℕ) (w : EntryWriter) → land (length (plainBytes srt 0)) o w ≡ arrivePlain srt o w
+pub land-sort : (srt : Sort) (o : Outcome ℕ ℕ) (w : EntryWriter) → takeNumber (length (plainBytes srt 0)) o w ≡ arrivePlain srt o w
 land-sort Kind (ok n next) w = refl
 land-sort Tag (ok n next) w = refl
 land-sort Flag (ok n next) w = refl
@@ -34,34 +34,34 @@ land-sort srt (refuse n p) w = refl
 pub row-there : (rows : List ℕ) (i sort : ℕ) (t : Bool) → t ≡ isRow rows i sort → not t ≡ false → i < wholeRows rows
 row-there rows i sort t e h = is-row rows i sort (sym e ∙ not-false t h) .0
 
-pub refused-stays : (w out : EntryWriter) → (w .refusal ≡ 0 → ⊥) → w ≡ guarded out w
+pub refused-stays : (w out : EntryWriter) → (w .refusal ≡ 0 → ⊥) → w ≡ unlessRefused out w
 refused-stays w out h = sym (guarded-refused out w h)
 
-step-of : (w out r : EntryWriter) → w .refusal ≡ 0 → r ≡ out → r ≡ guarded out w
+step-of : (w out r : EntryWriter) → w .refusal ≡ 0 → r ≡ out → r ≡ unlessRefused out w
 step-of w out r z e = e ∙ sym (goes-on out w z)
 
 module _ (rows : List ℕ) (w : EntryWriter) (z : w .refusal ≡ 0) (r : EntryWriter) (t : Bool) where
   -- No row of the sort
-  pub number-none : (size sort bound : ℕ) → t ≡ isRow rows (w .row) sort → not t ≡ true → r ≡ stopped w
-      → r ≡ guarded (land size (numberIn rows sort bound (w .row)) w) w
+  pub number-none : (size sort bound : ℕ) → t ≡ isRow rows (w .row) sort → not t ≡ true → r ≡ stoppedWriter w
+      → r ≡ unlessRefused (takeNumber size (numberFrom rows sort bound (w .row)) w) w
   number-none size sort bound e h q = step-of w _ _ z (rw (← e, not-true t h) q)
 
-  pub text-none : (text : List ℕ) → t ≡ isRow rows (w .row) 6 → not t ≡ true → r ≡ stopped w
-      → r ≡ guarded (arriveText (staysAt rows text (w .row)) (textIn rows text (w .row)) w) w
+  pub text-none : (text : List ℕ) → t ≡ isRow rows (w .row) textSort → not t ≡ true → r ≡ stoppedWriter w
+      → r ≡ unlessRefused (arriveText (staysAt rows text (w .row)) (textIn rows text (w .row)) w) w
   text-none text e h q = step-of w _ _ z (rw (← e, not-true t h) q)
 
 -- The number in a row of the sort
 module _ (rows : List ℕ) (w : EntryWriter) (z : w .refusal ≡ 0) (size sort bound : ℕ) (t : Bool) (e : t ≡ isRow rows (w .row) sort) (h : not t ≡ false) (n : ℕ) (q : n ≡ valueAt rows (w .row)) where
-  pub number-large : bound ≤ n → (r : EntryWriter) → r ≡ stopped w → r ≡ guarded (land size (numberIn rows sort bound (w .row)) w) w
+  pub number-large : bound ≤ n → (r : EntryWriter) → r ≡ stoppedWriter w → r ≡ unlessRefused (takeNumber size (numberFrom rows sort bound (w .row)) w) w
   number-large k r s = step-of w _ _ z (rw (← e, not-false t h, ← q, le-ltb n bound k) s)
 
-  pub number-lands : n < bound → (r : EntryWriter) → r ≡ past n size w → r ≡ guarded (land size (numberIn rows sort bound (w .row)) w) w
+  pub number-lands : n < bound → (r : EntryWriter) → r ≡ past n size w → r ≡ unlessRefused (takeNumber size (numberFrom rows sort bound (w .row)) w) w
   number-lands k r s = step-of w _ _ z (rw (← e, not-false t h, ← q, lt-ltb n bound k) s)
 
 -- The text of a row
-module _ (rows text : List ℕ) (w : EntryWriter) (z : w .refusal ≡ 0) (t : Bool) (e : t ≡ isRow rows (w .row) 6) (h : not t ≡ false) (start n : ℕ) (p : start ≡ offsetAt rows (w .row)) (q : n ≡ valueAt rows (w .row)) (s : Bool) (b : s ≡ leb (start + n) (length text)) where
+module _ (rows text : List ℕ) (w : EntryWriter) (z : w .refusal ≡ 0) (t : Bool) (e : t ≡ isRow rows (w .row) textSort) (h : not t ≡ false) (start n : ℕ) (p : start ≡ offsetAt rows (w .row)) (q : n ≡ valueAt rows (w .row)) (s : Bool) (b : s ≡ leb (start + n) (length text)) where
   -- It leaves the lent bytes
-  pub text-outside : not s ≡ true → (r : EntryWriter) → r ≡ spoiled w → r ≡ guarded (arriveText (staysAt rows text (w .row)) (textIn rows text (w .row)) w) w
+  pub text-outside : not s ≡ true → (r : EntryWriter) → r ≡ spoiled w → r ≡ unlessRefused (arriveText (staysAt rows text (w .row)) (textIn rows text (w .row)) w) w
   text-outside k r y = step-of w _ _ z (rw (← e, not-false t h, ← p, ← q, ← b, not-true s k) y)
 
   abbrev lent : List ℕ
@@ -72,7 +72,7 @@ module _ (rows text : List ℕ) (w : EntryWriter) (z : w .refusal ≡ 0) (t : Bo
 
   -- It stays
   module _ (k : not s ≡ false) (u : Bool) (f : u ≡ automaton.utf8 (take (start + n - start) (drop start text))) (r : EntryWriter) where
-    text-within : r ≡ pastText u lent w → r ≡ guarded (arriveText (staysAt rows text (w .row)) (textIn rows text (w .row)) w) w
+    text-within : r ≡ pastText u lent w → r ≡ unlessRefused (arriveText (staysAt rows text (w .row)) (textIn rows text (w .row)) w) w
     unfolding utf8
     text-within y =
         let x : start + n - start ≡ n = omega arith in
@@ -80,11 +80,11 @@ module _ (rows text : List ℕ) (w : EntryWriter) (z : w .refusal ≡ 0) (t : Bo
         step-of w _ _ z (rw (← e, not-false t h, ← p, ← q, ← b, not-false s k, ← g) y)
 
     -- And is bad
-    pub text-bad : not u ≡ true → r ≡ spoiled w → r ≡ guarded (arriveText (staysAt rows text (w .row)) (textIn rows text (w .row)) w) w
+    pub text-bad : not u ≡ true → r ≡ spoiled w → r ≡ unlessRefused (arriveText (staysAt rows text (w .row)) (textIn rows text (w .row)) w) w
     text-bad j y = text-within (rw (not-true u j) y)
 
     -- And is good
-    pub text-good : not u ≡ false → r ≡ past n (4 + n) w → r ≡ guarded (arriveText (staysAt rows text (w .row)) (textIn rows text (w .row)) w) w
+    pub text-good : not u ≡ false → r ≡ past n (4 + n) w → r ≡ unlessRefused (arriveText (staysAt rows text (w .row)) (textIn rows text (w .row)) w) w
     text-good j y =
         let m = lent-length (stays-within s (start + n) (length text) b k) in
         let l : length (leafBytes (string lent)) ≡ 4 + n = length-append (four (length lent)) lent ∙ omega arith in

@@ -9,18 +9,18 @@ use lib.Dec.{leb}
 use lib.ListN.{length, drop, length-append, length-drop}
 use lib.Seq.{take-append-seam, drop-append-add, drop-drop, length-take-le}
 use borrow.Author.Tests.{le-leb, leb-true, eq-eqb}
-use Rattle.layout.specs.Layout.{Kind, Tag, Flag, Number, Count, Leaf, plain, string, leaves}
-use Rattle.layout.specs.Written.{four, leafBytes, bytesOf, bytes, sortAt, offsetAt, valueAt}
+use Rattle.layout.specs.Layout.{Kind, Tag, Flag, Number, Count, Leaf, plain, string, Layout, Value, leaves}
+use Rattle.layout.specs.Written.{textSort, four, leafBytes, bytesOf, sortAt, offsetAt, valueAt}
 use Rattle.layout.specs.Reading.{utf8}
 use Rattle.layout.specs.Answers.{wholeRows}
 use Rattle.layout.proofs.Each.{Each, each-of}
 use Rattle.paste.specs.Pasted.{pasted}
 use Rattle.paste.proofs.Pasted.{pasted-fits}
 use Rattle.entry_writer.specs.Rows.{lentAt, staysAt, goodAt}
-use Rattle.entry_writer.specs.Stored.{rowLength, rowBytes, storedFrom, stored}
-use Rattle.entry_writer.specs.Theorems.{Stored-written}
-use Rattle.entry_writer.specs.Refusals.{RowGives, Sized}
-use Rattle.entry_writer.proofs.Spelled.{Given, given-there, spells-given, whole-rows, good-sound, all-good, write-exact}
+use Rattle.entry_writer.specs.Private.{rowLength, rowBytes, storedFrom, stored}
+use Rattle.entry_writer.specs.Refusals.{RowGives, Sized, Spells, Gives, Stores}
+use Rattle.entry_writer.proofs.Along.{along-each, along-map, along-also}
+use Rattle.entry_writer.proofs.Spelled.{There, Given, given-there, good-sound, all-good}
 use Rattle.entry_writer.proofs.Measured.{GoodFrom, good-next}
 use Rattle.entry_writer.proofs.Row.{length-one, length-four, length-text, bytes-one, bytes-four, bytes-text}
 
@@ -46,13 +46,13 @@ module _ (rows text : List ℕ) where
   row-has i (plain Number n) s g h = let (a, b) = four-has i 4 n (sym (g .0)) (omega arith) (omega arith) (g .1) in record { takes = a; has = b }
   row-has i (plain Count n) s g h = let (a, b) = four-has i 5 n (sym (g .0)) (omega arith) (omega arith) (g .1) in record { takes = a; has = b }
   row-has i (string t) s g h =
-      let e : (staysAt rows text i && utf8 (lentAt rows text i)) ≡ true = rw (eq-eqb (sortAt rows i) 6 (g .0)) at h in
+      let e : (staysAt rows text i && utf8 (lentAt rows text i)) ≡ true = rw (eq-eqb (sortAt rows i) textSort (g .0)) at h in
       let a = and-eq-true-iff (staysAt rows text i) (utf8 (lentAt rows text i)) .0 e .0 in
       let k : offsetAt rows i + valueAt rows i ≤ length text = leb-true _ _ a in
       let n : length t ≡ valueAt rows i = ap length (sym (g .1)) ∙ length-take-le (valueAt rows i) (drop (offsetAt rows i) text) (omega (arith, length-drop (offsetAt rows i) text)) in
       record {
-        takes = length-text rows i 6 (sym (g .0)) (omega arith) ∙ omega (arith, length-append (four (length t)) t);
-        has = bytes-text rows i 6 (sym (g .0)) text (omega arith) ∙ rw (a, g .1, n);
+        takes = length-text rows i textSort (sym (g .0)) (omega arith) ∙ omega (arith, length-append (four (length t)) t);
+        has = bytes-text rows i textSort (sym (g .0)) text (omega arith) ∙ rw (a, g .1, n);
       }
 
   stored-leaves : (ls : List Leaf) (i : ℕ) (a r : List ℕ) → Each Sized ls → Given rows text i ls → GoodFrom rows text i ls → length (bytesOf ls) ≤ length r
@@ -69,15 +69,15 @@ module _ (rows text : List ℕ) where
       (stored-leaves ls (i + 1) (a ++ b) (drop (length b) r) (s .1) (g .1) (good-next rows text i x ls h) (omega (arith, length-drop (length b) r))
       ∙ rw (append-assoc a b (bytesOf ls), drop-drop, ← q))
 
-pub stored-written : Stored-written
-stored-written L rows text dest b n e =
-    let (v, s, good, x, y, small, fits) = write-exact L rows text (length dest) b n .0 e in
-    let ls = leaves L v in
-    let g = spells-given L rows text v s in
+-- The storing keeps its promise
+pub stores : (rows text dest : List ℕ) → Stores rows text dest (stored rows text dest)
+stores rows text dest ls g good fits =
+    let w : wholeRows rows ≡ length ls = omega (arith, g .whole) in
+    let t = along-map (λ i x. RowGives rows text i x × Sized x) (There rows text) 0 ls (λ k x a b h. (omega arith, h .0)) (g .give) in
     let k = good-sound rows text (wholeRows rows) (all-good rows text good) in
-    let w : wholeRows rows ≡ length ls = whole-rows L rows text (length ls) (s .whole) in
-    let q : n ≡ length (bytes L v) = y ∙ ap length x in
     ap (λ (k : ℕ). storedFrom rows text k 0 0 dest) w
-    ∙ stored-leaves rows text ls 0 [] dest (each-of Sized L v (s .sized)) g (λ i p z. k i (given-there rows text 0 ls g i p z)) (omega arith)
-    ∙ ap (λ (c : List ℕ). c ++ drop (length (bytes L v)) dest) (sym x)
-    ∙ ap (λ (k : ℕ). b ++ drop k dest) (sym q)
+    ∙ stored-leaves rows text ls 0 [] dest (along-each (λ i x. RowGives rows text i x × Sized x) Sized (λ i x h. h .1) 0 ls (g .give)) t (λ i p z. k i (given-there rows text 0 ls t i p z)) fits
+
+-- Rows that spell a value give its leaves
+pub spells-gives : (L : Layout) (rows text : List ℕ) (v : Value L) → Spells L rows text v → Gives rows text (leaves L v)
+spells-gives L rows text v s = record { whole = s .whole; give = along-also (RowGives rows text) Sized 0 (leaves L v) (s .give) (each-of Sized L v (s .sized)) }

@@ -3,6 +3,5 @@ pub mod Writing
 pub mod Refusals
 pub mod State
 pub mod Run
-pub mod Stored
 pub mod Theorems
 pub mod Private

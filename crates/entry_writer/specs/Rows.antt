@@ -5,7 +5,7 @@ use mathlib.Core.List.{List}
 use lib.Dec.{eqb, ltb, leb}
 use lib.ListN.{length, take, drop}
 use Rattle.layout.specs.Layout.{Sort, bound}
-use Rattle.layout.specs.Written.{sortNumber, sortAt, offsetAt, valueAt}
+use Rattle.layout.specs.Written.{sortNumber, textSort, sortAt, offsetAt, valueAt}
 use Rattle.layout.specs.Reading.{Outcome, ok, need, Source, utf8}
 use Rattle.layout.specs.Answers.{wholeRows}
 
@@ -24,13 +24,13 @@ plainIn rows srt i =
 abbrev pub lentAt : (rows text : List ℕ) → (row : ℕ) → List ℕ
 lentAt rows text i = take (valueAt rows i) (drop (offsetAt rows i) text)
 
--- A text, from a row of sort 6
+-- A text, from a row of its sort
 abbrev pub textIn : (rows text : List ℕ) → (row : ℕ) → Outcome ℕ (List ℕ)
-textIn rows text i = need (isRow rows i 6) 14 0 (ok (lentAt rows text i) (i + 1))
+textIn rows text i = need (isRow rows i textSort) 14 0 (ok (lentAt rows text i) (i + 1))
 
--- Rows as a source: its states are the numbers of the rows taken. No other row's offset is read than a text's
+-- Rows as a source: its positions are the numbers of the rows taken. No other row's offset is read than a text's
 abbrev pub inRows : (rows text : List ℕ) → Source
-inRows rows text = record { State = ℕ; takePlain = plainIn rows; takeText = textIn rows text; place = λ i. 0 }
+inRows rows text = record { Position = ℕ; takePlain = plainIn rows; takeText = textIn rows text; place = λ i. 0 }
 
 -- A text row stays within the lent bytes
 abbrev pub staysAt : (rows text : List ℕ) → (row : ℕ) → Bool
@@ -38,7 +38,7 @@ staysAt rows text i = leb (offsetAt rows i + valueAt rows i) (length text)
 
 -- 15: a text row stays within the lent bytes, and its bytes are RFC 3629. Other rows are not asked
 abbrev pub goodAt : (rows text : List ℕ) → (row : ℕ) → Bool
-goodAt rows text i = cond (eqb (sortAt rows i) 6) (staysAt rows text i && utf8 (lentAt rows text i)) true
+goodAt rows text i = cond (eqb (sortAt rows i) textSort) (staysAt rows text i && utf8 (lentAt rows text i)) true
 
 -- So are the first n rows
 abbrev pub goodRows : (rows text : List ℕ) → (n : ℕ) → Bool

@@ -8,29 +8,29 @@ use Rattle.layout.specs.Layout.{Layout}
 use Rattle.layout.specs.Written.{rowWidth}
 use Rattle.layout.specs.Reading.{leavesAt}
 use Rattle.layout.specs.Machine.{Machine, verdictOn, drive}
-use Rattle.layout.specs.Alone.{limit}
+use Rattle.layout.specs.Answers.{limit}
 use Rattle.length.specs.Length.{Length, counted, refused}
 use Rattle.entry_writer.specs.Rows.{inRows}
-use Rattle.entry_writer.specs.State.{refusedOnce, plainStep, textStep}
+use Rattle.entry_writer.specs.State.{stoppedOnce, consumePlain, consumeText}
 use Rattle.entry_writer.specs.declared.EntryWriter.{EntryWriter}
 
 -- The writing from rows and lent text bytes
 abbrev pub writer : (rows text : List ℕ) → Machine EntryWriter
 writer rows text = record {
-  plainStep = λ srt w. plainStep srt rows w;
-  textStep = λ w. textStep rows text w;
+  plainStep = λ srt w. consumePlain srt rows w;
+  textStep = λ w. consumeText rows text w;
   value = λ w. w .value;
-  halt = λ f begin w. refusedOnce w;
+  halt = λ f begin w. stoppedOnce w;
   verdict = λ A judge w. verdictOn judge (leavesAt (inRows rows text) A (w .row));
 }
 
 -- The rows of a layout
-abbrev pub run : Layout → (rows text : List ℕ) → EntryWriter → EntryWriter
-run L rows text w = drive (writer rows text) L w
+abbrev pub consume : Layout → (rows text : List ℕ) → EntryWriter → EntryWriter
+consume L rows text w = drive (writer rows text) L w
 
 -- 14, if a row was refused or some are left; 15; 16; or the length
-unfoldable pub finished : (rows : List ℕ) → EntryWriter → Length
-finished rows w =
+unfoldable pub closing : (rows : List ℕ) → EntryWriter → Length
+closing rows w =
     cond (eqb (w .refusal) 0 && eqb (rowWidth * w .row) (length rows))
     (cond (w .bad) (refused 15 0)
     (cond (leb (w .pos) limit) (counted (w .pos)) (refused 16 0)))

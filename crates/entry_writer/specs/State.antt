@@ -7,21 +7,21 @@ use lib.ListN.{length}
 use Rattle.layout.specs.Layout.{Sort, plain, string}
 use Rattle.layout.specs.Written.{leafBytes}
 use Rattle.layout.specs.Reading.{Outcome, ok, refuse, utf8}
-use Rattle.layout.specs.Alone.{limit}
+use Rattle.layout.specs.Answers.{limit}
 use Rattle.entry_writer.specs.Rows.{plainIn, textIn, staysAt}
 use Rattle.entry_writer.specs.declared.EntryWriter.{EntryWriter}
 
 -- The writer of a writing that begins
-abbrev pub start : EntryWriter
-start = record { row = 0; pos = 0; value = 0; refusal = 0; bad = false }
+abbrev pub newWriter : EntryWriter
+newWriter = record { row = 0; pos = 0; value = 0; refusal = 0; bad = false }
 
 -- The writer, refused
-abbrev pub stopped : EntryWriter → EntryWriter
-stopped w = record { row = w .row; pos = w .pos; value = w .value; refusal = 14; bad = w .bad }
+abbrev pub stoppedWriter : EntryWriter → EntryWriter
+stoppedWriter w = record { row = w .row; pos = w .pos; value = w .value; refusal = 14; bad = w .bad }
 
 -- The same, unless it is refused already
-abbrev pub refusedOnce : EntryWriter → EntryWriter
-refusedOnce w = cond (eqb (w .refusal) 0) (stopped w) w
+abbrev pub stoppedOnce : EntryWriter → EntryWriter
+stoppedOnce w = cond (eqb (w .refusal) 0) (stoppedWriter w) w
 
 -- A length with more bytes; above the limit it stops
 abbrev pub grown : (pos size : ℕ) → ℕ
@@ -38,7 +38,7 @@ spoiled w = record { row = w .row + 1; pos = w .pos; value = w .value; refusal =
 -- A row that holds a number, or 14
 abbrev pub arrivePlain : Sort → Outcome ℕ ℕ → EntryWriter → EntryWriter
 arrivePlain srt (ok n next) w = past n (length (leafBytes (plain srt n))) w
-arrivePlain srt (refuse n p) w = stopped w
+arrivePlain srt (refuse n p) w = stoppedWriter w
 
 -- A text that is good, or bad
 abbrev pub pastText : (good : Bool) → List ℕ → EntryWriter → EntryWriter
@@ -48,16 +48,16 @@ pastText false t w = spoiled w
 -- A text row, or 14
 abbrev pub arriveText : (stays : Bool) → Outcome ℕ (List ℕ) → EntryWriter → EntryWriter
 arriveText stays (ok t next) w = pastText (stays && utf8 t) t w
-arriveText stays (refuse n p) w = stopped w
+arriveText stays (refuse n p) w = stoppedWriter w
 
 -- A refused writer stays as it is
-unfoldable pub guarded : (out w : EntryWriter) → EntryWriter
-guarded out w = cond (eqb (w .refusal) 0) out w
+unfoldable pub unlessRefused : (out w : EntryWriter) → EntryWriter
+unlessRefused out w = cond (eqb (w .refusal) 0) out w
 
 -- The taking of a row that holds a number
-unfoldable pub plainStep : Sort → (rows : List ℕ) → EntryWriter → EntryWriter
-plainStep srt rows w = guarded (arrivePlain srt (plainIn rows srt (w .row)) w) w
+unfoldable pub consumePlain : Sort → (rows : List ℕ) → EntryWriter → EntryWriter
+consumePlain srt rows w = unlessRefused (arrivePlain srt (plainIn rows srt (w .row)) w) w
 
 -- The taking of a text row
-unfoldable pub textStep : (rows text : List ℕ) → EntryWriter → EntryWriter
-textStep rows text w = guarded (arriveText (staysAt rows text (w .row)) (textIn rows text (w .row)) w) w
+unfoldable pub consumeText : (rows text : List ℕ) → EntryWriter → EntryWriter
+consumeText rows text w = unlessRefused (arriveText (staysAt rows text (w .row)) (textIn rows text (w .row)) w) w

@@ -1,19 +1,18 @@
 -- What is proved of the definitions, as statements, for every layout. Each comment names the proof, in proofs/.
 use Prim.Native.Nat.{ℕ, _*_, _≤_, _<_}
-use mathlib.Core.List.{List, _++_}
+use mathlib.Core.List.{List}
 use mathlib.Core.Logic.{_↔_}
 use mathlib.Core.Path.{_≡_}
-use lib.ListN.{length, getD, take, drop}
+use lib.ListN.{length, getD, take}
 use Rattle.layout.specs.Layout.{Layout, Value, Proper}
-use Rattle.layout.specs.Written.{bytes, rowWidth, sortAt, offsetAt, valueAt}
+use Rattle.layout.specs.Written.{bytes, rowWidth, textSort, sortAt, offsetAt, valueAt}
 use Rattle.layout.specs.Reading.{ok, refuse}
-use Rattle.layout.specs.Answers.{accepted, Result, wholeRows}
-use Rattle.layout.specs.Alone.{limit, readingAlone}
+use Rattle.layout.specs.Answers.{limit, accepted, Result, wholeRows}
+use Rattle.layout.specs.ReadAlone.{readingAlone}
 use Rattle.layout.specs.Theorems.{Bytes}
 use Rattle.entry_writer.specs.Rows.{lentAt}
-use Rattle.entry_writer.specs.Writing.{write}
-use Rattle.entry_writer.specs.Stored.{stored}
-use Rattle.entry_writer.specs.Refusals.{Spells, GoodTexts, Refusal}
+use Rattle.entry_writer.specs.Writing.{measured, write, lengthIn, written}
+use Rattle.entry_writer.specs.Refusals.{Spells, GoodTexts, WriteRefusal, ExactLength, ExactWriting}
 
 -- What is written is what the value that the rows spell derives, of good texts, of at most the limit and within the destination;
 -- and all such is written: `write-exact` in Spelled.antt
@@ -35,13 +34,23 @@ Spells-unique = (L : Layout) (rows text : List ℕ) (v w : Value L) → Spells L
 -- Each refusal is answered under its condition and no other: `write-refused` in Spelled.antt
 abbrev pub Write-refused : Type 0
 Write-refused =
-    (L : Layout) (rows text : List ℕ) (size n p : ℕ) → (write L rows text size ≡ refuse n p) ↔ (Refusal L rows text size n × (p ≡ 0))
+    (L : Layout) (rows text : List ℕ) (size n p : ℕ) → (write L rows text size ≡ refuse n p) ↔ (WriteRefusal L rows text size n × (p ≡ 0))
+
+-- A measuring keeps its promise in terms of what the rows spell: `exact-length` in Exact.antt
+abbrev pub Exact-length : Type 0
+Exact-length = (L : Layout) (rows text : List ℕ) → ExactLength L rows text (lengthIn (measured L rows text))
+
+-- So a writing: `exact-writing` in Exact.antt
+abbrev pub Exact-writing : Type 0
+Exact-writing =
+    (L : Layout) (rows text dest : List ℕ)
+    → ExactWriting L rows text dest (lengthIn (write L rows text (length dest))) (written (write L rows text (length dest)) dest)
 
 -- A row of another table is the same, but for the offset if it is no text row
 pub record SameRow (rows other : List ℕ) (i : ℕ) : Type 0 where
   pub sorts : sortAt other i ≡ sortAt rows i
   pub values : valueAt other i ≡ valueAt rows i
-  pub offsets : sortAt rows i ≡ 6 → offsetAt other i ≡ offsetAt rows i
+  pub offsets : sortAt rows i ≡ textSort → offsetAt other i ≡ offsetAt rows i
 
 -- The offset of text rows only is read: `offset-free` in Offsets.antt
 abbrev pub Offset-free : Type 0
@@ -49,24 +58,19 @@ Offset-free =
     (L : Layout) (rows other text : List ℕ) (size : ℕ) → length other ≡ length rows → ((i : ℕ) → i < wholeRows rows → SameRow rows other i)
     → write L other text size ≡ write L rows text size
 
--- What is stored where a writing is accepted: its bytes, and behind them what was there: `stored-written` in Stored.antt
-abbrev pub Stored-written : Type 0
-Stored-written =
-    (L : Layout) (rows text dest b : List ℕ) (n : ℕ) → write L rows text (length dest) ≡ ok b n → stored rows text dest ≡ b ++ drop n dest
-
 -- A reading of bytes that returns the rows from which they were written, but for offsets, and for each text row the same bytes
-pub record Returns (rows text b : List ℕ) (entities : ℕ) (r : Result) : Type 0 where
+pub record ReadsBack (rows text b : List ℕ) (entities : ℕ) (r : Result) : Type 0 where
   pub answer : r .answer ≡ accepted entities (wholeRows rows)
   pub sorts : (i : ℕ) → i < wholeRows rows → sortAt (r .table) i ≡ sortAt rows i
   pub values : (i : ℕ) → i < wholeRows rows → valueAt (r .table) i ≡ valueAt rows i
-  pub texts : (i : ℕ) → i < wholeRows rows → sortAt rows i ≡ 6 → lentAt (r .table) b i ≡ lentAt rows text i
+  pub texts : (i : ℕ) → i < wholeRows rows → sortAt rows i ≡ textSort → lentAt (r .table) b i ≡ lentAt rows text i
   pub zeros : (k : ℕ) → rowWidth * wholeRows rows ≤ k → getD (r .table) k 0 ≡ 0
 
 -- Reading what was written, given rows enough: `read-written` in RoundTrips.antt
 abbrev pub Read-written : Type 0
 Read-written =
     (L : Layout) (entities : ℕ) (rows text : List ℕ) (size : ℕ) (b : List ℕ) (n : ℕ) → write L rows text size ≡ ok b n
-    → (table : List ℕ) → wholeRows rows ≤ wholeRows table → Returns rows text b entities (readingAlone L entities b table)
+    → (table : List ℕ) → wholeRows rows ≤ wholeRows table → ReadsBack rows text b entities (readingAlone L entities b table)
 
 -- Writing what was read, given space enough: the rows that the reading stored, with the bytes read as the lent text:
 -- `write-read` in RoundTrips.antt

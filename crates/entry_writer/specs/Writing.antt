@@ -7,8 +7,7 @@ use lib.ListN.{length, drop}
 use Rattle.layout.specs.Layout.{Layout, Value}
 use Rattle.layout.specs.Written.{bytes, rowWidth}
 use Rattle.layout.specs.Reading.{Outcome, ok, refuse, _>>=_, need, walk}
-use Rattle.layout.specs.Answers.{wholeRows}
-use Rattle.layout.specs.Alone.{limit}
+use Rattle.layout.specs.Answers.{limit, wholeRows}
 use Rattle.length.specs.Length.{Length, counted, refused}
 use Rattle.entry_writer.specs.Rows.{inRows, goodRows}
 

@@ -16,10 +16,10 @@ ghost use Rattle.length.specs.Length.{lengthOf, refused};
 ghost use Rattle.paste.specs.Pasted.{pasted};
 ghost use Rattle.entry_writer.specs.Rows.{isRow};
 ghost use Rattle.entry_writer.specs.Writing.{fitting};
-ghost use Rattle.entry_writer.specs.State.{start, stopped, refusedOnce, grown, past, spoiled, guarded};
-ghost use Rattle.entry_writer.specs.Run.{run, finished};
-ghost use Rattle.entry_writer.specs.Stored.{rowLength, rowBytes, stored};
-ghost use Rattle.entry_writer.specs.Private.{numberIn, land};
+ghost use Rattle.entry_writer.specs.State.{newWriter, stoppedWriter, stoppedOnce, grown, past, spoiled, unlessRefused};
+ghost use Rattle.entry_writer.specs.Run.{consume, closing};
+ghost use Rattle.entry_writer.specs.Refusals.{Stores};
+ghost use Rattle.entry_writer.specs.Private.{numberFrom, takeNumber, rowLength, rowBytes};
 
 // The places of a text's offset and of the value in a row.
 const ROW_OFFSET: usize = 1;
@@ -39,7 +39,7 @@ pub struct EntryWriter {
 impl EntryWriter {
     // A writer at the first row.
     pub fn new() -> EntryWriter
-        ensures { λ r. ⌜ r ≡ start ⌝ }
+        ensures { λ r. ⌜ r ≡ newWriter ⌝ }
     {
         EntryWriter {
             row: 0,
@@ -52,7 +52,7 @@ impl EntryWriter {
 
     // The writer, refused.
     fn stop(self) -> EntryWriter
-        ensures { λ r. ⌜ r ≡ stopped self ⌝ }
+        ensures { λ r. ⌜ r ≡ stoppedWriter self ⌝ }
     {
         EntryWriter {
             row: self.row,
@@ -65,7 +65,7 @@ impl EntryWriter {
 
     // The same, unless it is refused already.
     pub fn refused(self) -> EntryWriter
-        ensures { λ r. ⌜ r ≡ refusedOnce self ⌝ }
+        ensures { λ r. ⌜ r ≡ stoppedOnce self ⌝ }
     {
         if self.refusal != 0 {
             return self;
@@ -103,7 +103,7 @@ impl EntryWriter {
 
     // A row of a sort with a value below a bound, which takes so many bytes.
     fn number(self, rows: &[u32], sort: u32, bound: usize, size: usize) -> EntryWriter
-        ensures { λ r. ⌜ r ≡ guarded (land size (numberIn (now (rows .entry)) sort bound (self .row)) self) self ⌝ }
+        ensures { λ r. ⌜ r ≡ unlessRefused (takeNumber size (numberFrom (now (rows .entry)) sort bound (self .row)) self) self ⌝ }
     {
         if self.refusal != 0 {
             return self;
@@ -121,35 +121,35 @@ impl EntryWriter {
 
     // This and the next four take the next row, from the rows and the text bytes that are lent. Here: a tag.
     pub fn u8(self, rows: &[u32], text: &[u8]) -> EntryWriter
-        ensures { λ r. ⌜ r ≡ run (one Tag) (now (rows .entry)) (now (text .entry)) self ⌝ }
+        ensures { λ r. ⌜ r ≡ consume (one Tag) (now (rows .entry)) (now (text .entry)) self ⌝ }
     {
         self.number(rows, leaf::SORT_TAG, 256, 1)
     }
 
     // A flag.
     pub fn bool(self, rows: &[u32], text: &[u8]) -> EntryWriter
-        ensures { λ r. ⌜ r ≡ run (one Flag) (now (rows .entry)) (now (text .entry)) self ⌝ }
+        ensures { λ r. ⌜ r ≡ consume (one Flag) (now (rows .entry)) (now (text .entry)) self ⌝ }
     {
         self.number(rows, leaf::SORT_FLAG, 2, 1)
     }
 
     // A number.
     pub fn u32(self, rows: &[u32], text: &[u8]) -> EntryWriter
-        ensures { λ r. ⌜ r ≡ run (one Number) (now (rows .entry)) (now (text .entry)) self ⌝ }
+        ensures { λ r. ⌜ r ≡ consume (one Number) (now (rows .entry)) (now (text .entry)) self ⌝ }
     {
         self.number(rows, leaf::SORT_NUMBER, 4294967296, 4)
     }
 
     // The count of a list.
     pub fn count(self, rows: &[u32], text: &[u8]) -> EntryWriter
-        ensures { λ r. ⌜ r ≡ run (one Count) (now (rows .entry)) (now (text .entry)) self ⌝ }
+        ensures { λ r. ⌜ r ≡ consume (one Count) (now (rows .entry)) (now (text .entry)) self ⌝ }
     {
         self.number(rows, leaf::SORT_COUNT, 4294967296, 4)
     }
 
     // A text: its length, then its bytes.
     pub fn str(self, rows: &[u32], text: &[u8]) -> EntryWriter
-        ensures { λ r. ⌜ r ≡ run layouts.text (now (rows .entry)) (now (text .entry)) self ⌝ }
+        ensures { λ r. ⌜ r ≡ consume layouts.text (now (rows .entry)) (now (text .entry)) self ⌝ }
     {
         if self.refusal != 0 {
             return self;
@@ -172,7 +172,7 @@ impl EntryWriter {
 
     // The answer at the end: 14 unless all rows were taken; 15; 16; or the length.
     pub fn finish(self, rows: &[u32]) -> Length
-        ensures { λ r. ⌜ lengthOf r ≡ finished (now (rows .entry)) self ⌝ }
+        ensures { λ r. ⌜ lengthOf r ≡ closing (now (rows .entry)) self ⌝ }
     {
         if self.refusal != 0 {
             return refuse(14);
@@ -189,7 +189,7 @@ impl EntryWriter {
         if LIMIT < self.pos {
             return refuse(16);
         }
-        Length::Bytes { count: self.pos }
+        Length::Counted { count: self.pos }
     }
 }
 
@@ -197,7 +197,7 @@ impl EntryWriter {
 pub fn fitting(length: Length, size: usize) -> Length
     ensures { λ r. ⌜ lengthOf r ≡ fitting (lengthOf length) size ⌝ }
 {
-    let Length::Bytes { count } = length else {
+    let Length::Counted { count } = length else {
         return length;
     };
     if size < count {
@@ -209,9 +209,10 @@ pub fn fitting(length: Length, size: usize) -> Length
     length
 }
 
-// Stores the bytes of the rows from the start of dest on, one row after the other, as long as they fit.
+// Stores the bytes of the rows from the start of dest on, one row after the other, as long as they fit. What it stores of rows
+// that give no leaves is left free.
 pub fn store(rows: &[u32], text: &[u8], dest: &mut [u8])
-    ensures { λ r. ⌜ now (dest .exit) ≡ stored (now (rows .entry)) (now (text .entry)) (now (dest .entry)) ⌝ }
+    ensures { λ r. ⌜ Stores (now (rows .entry)) (now (text .entry)) (now (dest .entry)) (now (dest .exit)) ⌝ }
 {
     let mut at = 0;
     let mut row = 0;

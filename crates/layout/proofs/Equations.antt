@@ -2,7 +2,7 @@
 use Prim.Native.Nat.{ℕ}
 use mathlib.Core.List.{List, [], _∷_, _++_, append-assoc}
 use mathlib.Core.Path.{_≡_, refl}
-use Rattle.layout.specs.Layout.{Sort, Leaf, plain, string, Verdict, fine, wrong, Layout, nothing, one, text, _then_, case, check, Value, leaves}
+use Rattle.layout.specs.Layout.{Sort, Leaf, plain, string, Verdict, fine, wrong, Layout, nothing, one, text, _then_, case, check, Value, leaves, valuesOf}
 use Rattle.layout.specs.Reading.{Outcome, ok, refuse, _>>=_, judged, Source, walk, leavesAt, plainAt, textAt, inBytes, readValue, read}
 
 module _ {S : Type 0} where
@@ -39,42 +39,42 @@ module _ {S : Type 0} where
   case-leaves srt A j B p b (refuse n q) f = refl
 
 module _ (S : Source) where
-  pub at-nothing : (st : S .State) → leavesAt S nothing st ≡ ok [] st
+  pub at-nothing : (st : S .Position) → leavesAt S nothing st ≡ ok [] st
   unfolding walk
   at-nothing st = refl
 
-  pub at-one : (srt : Sort) (st : S .State) → leavesAt S (one srt) st ≡ (S .takePlain srt st >>= λ n end. ok (plain srt n ∷ []) end)
+  pub at-one : (srt : Sort) (st : S .Position) → leavesAt S (one srt) st ≡ (S .takePlain srt st >>= λ n end. ok (plain srt n ∷ []) end)
   unfolding walk
   at-one srt st = refl
 
-  pub at-text : (st : S .State) → leavesAt S text st ≡ (S .takeText st >>= λ t end. ok (string t ∷ []) end)
+  pub at-text : (st : S .Position) → leavesAt S text st ≡ (S .takeText st >>= λ t end. ok (string t ∷ []) end)
   unfolding walk
   at-text st = refl
 
-  pub at-then : (A B : Layout) (st : S .State) → leavesAt S (A then B) st ≡ (leavesAt S A st >>= λ ls k. after ls (leavesAt S B k))
+  pub at-then : (A B : Layout) (st : S .Position) → leavesAt S (A then B) st ≡ (leavesAt S A st >>= λ ls k. after ls (leavesAt S B k))
   unfolding walk
   at-then A B st = then-leaves A B (walk S A st) (walk S B)
 
-  pub at-case : (srt : Sort) (A : Layout) (j : ℕ → Verdict) (B : ℕ → Layout) (st : S .State)
+  pub at-case : (srt : Sort) (A : Layout) (j : ℕ → Verdict) (B : ℕ → Layout) (st : S .Position)
       → leavesAt S (case srt A j B) st ≡ (S .takePlain srt st >>= λ b k. leavesAt S A k >>= λ ls k₂. judged (j b) (S .place st) (after (plain srt b ∷ ls) (leavesAt S (B b) k₂)))
   unfolding walk
   at-case srt A j B st = go (S .takePlain srt st)
     where
-      go : (g : Outcome (S .State) ℕ) → leavesOf (case srt A j B) (g >>= λ b k. walk S A k >>= λ a k₁. judged (j b) (S .place st) (walk S (B b) k₁ >>= λ c end. ok (b, a, c) end))
+      go : (g : Outcome (S .Position) ℕ) → leavesOf (case srt A j B) (g >>= λ b k. walk S A k >>= λ a k₁. judged (j b) (S .place st) (walk S (B b) k₁ >>= λ c end. ok (b, a, c) end))
           ≡ (g >>= λ b k. leavesAt S A k >>= λ ls k₂. judged (j b) (S .place st) (after (plain srt b ∷ ls) (leavesAt S (B b) k₂)))
       go (ok b k) = case-leaves srt A j B (S .place st) b (walk S A k) (walk S (B b))
       go (refuse n p) = refl
 
-  pub at-check : (A : Layout) (j : List Leaf → Verdict) (st : S .State) → leavesAt S (check A j) st ≡ (leavesAt S A st >>= λ ls k. judged (j ls) (S .place st) (ok ls k))
+  pub at-check : (A : Layout) (j : List ℕ → Verdict) (st : S .Position) → leavesAt S (check A j) st ≡ (leavesAt S A st >>= λ ls k. judged (j (valuesOf ls)) (S .place st) (ok ls k))
   unfolding walk
   at-check A j st = go (walk S A st)
     where
-      verdict : (v : Verdict) (a : Value A) (k : S .State) → leavesOf (check A j) (judged v (S .place st) (ok a k)) ≡ judged v (S .place st) (ok (leaves A a) k)
+      verdict : (v : Verdict) (a : Value A) (k : S .Position) → leavesOf (check A j) (judged v (S .place st) (ok a k)) ≡ judged v (S .place st) (ok (leaves A a) k)
       verdict fine a k = refl
       verdict (wrong f) a k = refl
 
-      go : (g : Outcome (S .State) (Value A)) → leavesOf (check A j) (g >>= λ a k. judged (j (leaves A a)) (S .place st) (ok a k)) ≡ (leavesOf A g >>= λ ls k. judged (j ls) (S .place st) (ok ls k))
-      go (ok a k) = verdict (j (leaves A a)) a k
+      go : (g : Outcome (S .Position) (Value A)) → leavesOf (check A j) (g >>= λ a k. judged (j (valuesOf (leaves A a))) (S .place st) (ok a k)) ≡ (leavesOf A g >>= λ ls k. judged (j (valuesOf ls)) (S .place st) (ok ls k))
+      go (ok a k) = verdict (j (valuesOf (leaves A a))) a k
       go (refuse n p) = refl
 
 -- From bytes
@@ -91,6 +91,6 @@ pub read-case : (srt : Sort) (A : Layout) (j : ℕ → Verdict) (B : ℕ → Lay
 unfolding read readValue
 read-case srt A j B s at = at-case (inBytes s) srt A j B at
 
-pub read-check : (A : Layout) (j : List Leaf → Verdict) (s : List ℕ) (at : ℕ) → read (check A j) s at ≡ (read A s at >>= λ ls k. judged (j ls) at (ok ls k))
+pub read-check : (A : Layout) (j : List ℕ → Verdict) (s : List ℕ) (at : ℕ) → read (check A j) s at ≡ (read A s at >>= λ ls k. judged (j (valuesOf ls)) at (ok ls k))
 unfolding read readValue
 read-check A j s at = at-check (inBytes s) A j at

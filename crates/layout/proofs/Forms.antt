@@ -3,10 +3,10 @@ use Prim.Native.Nat.{ℕ, zero, suc, _+_, _-_, _≤_, _<_}
 use native.Mathlib.Omega.{arith}
 use mathlib.Core.List.{List, _++_}
 use mathlib.Core.Path.{_≡_, refl, sym, ap, _∙_}
-use Rattle.layout.specs.Layout.{Layout, Sort, Kind, Tag, Flag, Count, Leaf, Fault, unknown-kind, unknown-tag, Verdict, fine, wrong, nothing, one, text, _then_, case, check}
-use Rattle.layout.specs.Forms.{times, any, list, may, onlyIf, Tags, tags, tagsAfter, kinds, known, follows, bare}
+use Rattle.layout.specs.Layout.{Layout, Sort, Kind, Tag, Flag, Count, Fault, unknown-kind, unknown-tag, Verdict, fine, wrong, nothing, one, text, _then_, case, check}
+use Rattle.layout.specs.Forms.{times, any, list, may, onlyIf, Tags, tags, tagsAfter, kinds, known, follows}
 use Rattle.layout.specs.Machine.{Machine, pass, drive}
-use Rattle.layout.proofs.Tables.{Outside, known-outside, follows-outside, bare-in}
+use Rattle.layout.proofs.Tables.{Outside, known-outside, follows-outside, bare, bare-in}
 
 -- States that no step changes
 pub record Still {T : Type 0} (M : Machine T) (R : T → Type 0) : Type 0 where
@@ -113,7 +113,7 @@ module _ {T : Type 0} where
   loop-end n i L M w st e h = sym (e ∙ times-done n i L M st h)
 
   -- What is judged after it
-  pub check-law : (A : Layout) (j : List Leaf → Verdict) (M : Machine T) (st st₁ r : T) → st₁ ≡ drive M A st → r ≡ pass M (M .verdict A j st) st st₁ → r ≡ drive M (check A j) st
+  pub check-law : (A : Layout) (j : List ℕ → Verdict) (M : Machine T) (st st₁ r : T) → st₁ ≡ drive M A st → r ≡ pass M (M .verdict A j st) st st₁ → r ≡ drive M (check A j) st
   unfolding drive
   check-law A j M st st₁ r e q = q ∙ ap (pass M (M .verdict A j st) st) e
 

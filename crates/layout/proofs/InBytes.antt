@@ -10,9 +10,9 @@ use lib.ListN.{length, getD, take, drop, length-append, length-drop, take-append
 use lib.Seq.{drop-cons, getD-drop, drop-drop, drop-append-seam, take-append-seam, length-take-le}
 use borrow.Author.Tests.{ltb-true, leb-true, lt-ltb, le-leb}
 use Rattle.layout.specs.Layout.{Sort, Kind, Tag, Flag, Number, Count, Leaf, plain, string, Layout, Value, leaves, Fits, Proper}
-use Rattle.layout.specs.Written.{four, bytesOf, bytes}
+use Rattle.layout.specs.Written.{four, bytesOf, bytes, Stand}
 use Rattle.layout.specs.Reading.{Outcome, ok, refuse, _>>=_, utf8, enough, numberAt, fourAt, plainAt, textAt, inBytes, readValue, read}
-use Rattle.layout.specs.Theorems.{Bytes, Stand, Read-exact, Value-unique}
+use Rattle.layout.specs.Theorems.{Bytes, Read-exact, Value-unique}
 use Rattle.layout.proofs.Walk.{All, given, all-bind, all-ok, all-need, Sound, Complete, sound, complete}
 use Rattle.layout.proofs.Numbers.{four-number, number-four}
 use Rattle.text.proofs.Exact.{utf8-exact}
@@ -36,7 +36,7 @@ inside s at r e i h = omega (arith, ap length e, length-drop at s)
 found : (s : List ℕ) (at : ℕ) (r : List ℕ) → drop at s ≡ r → (i : ℕ) → getD s (at + i) 0 ≡ getD r i 0
 found s at r e i = sym (getD-drop at s i 0) ∙ ap (λ (l : List ℕ). getD l i 0) e
 
-byte-there : (s : List ℕ) (at : ℕ) → at + 1 ≤ length s → drop at s ≡ getD s at 0 ∷ drop (at + 1) s
+pub byte-there : (s : List ℕ) (at : ℕ) → at + 1 ≤ length s → drop at s ≡ getD s at 0 ∷ drop (at + 1) s
 byte-there s at h = rw (add-one, drop-cons s at 0 (omega arith))
 
 next : (s : List ℕ) (at i : ℕ) → at + i < length s → drop (at + i) s ≡ getD s (at + i) 0 ∷ drop (at + suc i) s
@@ -44,6 +44,9 @@ next s at i h = rw (add-suc, drop-cons s (at + i) 0)
 
 four-there : (s : List ℕ) (at : ℕ) → at + 4 ≤ length s → drop at s ≡ getD s at 0 ∷ getD s (at + 1) 0 ∷ getD s (at + 2) 0 ∷ getD s (at + 3) 0 ∷ drop (at + 4) s
 four-there s at h = rw (byte-there s at (omega arith), next s at 1 (omega arith), next s at 2 (omega arith), next s at 3 (omega arith))
+
+pub part-there : (s : List ℕ) (at n : ℕ) → at + n ≤ length s → (length (take n (drop at s)) ≡ n) × (drop at s ≡ take n (drop at s) ++ drop (at + n) s)
+part-there s at n h = (length-take-le n (drop at s) (omega (arith, length-drop at s)), sym (rw (← drop-drop n at s) (take-append-drop n (drop at s))))
 
 module _ (s : List ℕ) where
   none-begin : (at : ℕ) → Leaves s at [] at
@@ -90,12 +93,10 @@ module _ (s : List ℕ) where
       all-bind (fourAt s at) _ (plain-sound u Number at) λ n at₁ p.
       all-need _ 5 at₁ _ λ e.
       all-need _ 7 at₁ _ λ e₂.
-      let h : at₁ + n ≤ length s = leb-true (at₁ + n) (length s) e in
-      let k : length (take n (drop at₁ s)) ≡ n = length-take-le n (drop at₁ s) (omega (arith, length-drop at₁ s)) in
-      let d : take n (drop at₁ s) ++ drop (at₁ + n) s ≡ drop at₁ s = rw (← drop-drop n at₁ s) (take-append-drop n (drop at₁ s)) in
-      given ((utf8-exact _ .0 e₂, rw k (p .0)), text-stands (take n (drop at₁ s)) at (at₁ + n) (rw (k, d) (p .1 .there)) (omega (arith, p .1 .ends)))
+      let (k, d) = part-there s at₁ n (leb-true (at₁ + n) (length s) e) in
+      given ((utf8-exact _ .0 e₂, rw k (p .0)), text-stands (take n (drop at₁ s)) at (at₁ + n) (rw (k, ← d) (p .1 .there)) (omega (arith, p .1 .ends)))
 
-  byte-complete : (at end n : ℕ) → drop at s ≡ n ∷ drop end s → (enough s at 1 ≡ true) × (getD s at 0 ≡ n)
+  pub byte-complete : (at end n : ℕ) → drop at s ≡ n ∷ drop end s → (enough s at 1 ≡ true) × (getD s at 0 ≡ n)
   byte-complete at end n e = (le-leb (at + 1) (length s) (omega (arith, inside s at _ e 0 (omega arith))), rw add-zero at (found s at _ e 0))
 
   pub four-complete : (at end n : ℕ) → n < 4294967296 → drop at s ≡ four n ++ drop end s → (enough s at 4 ≡ true) × (numberAt s at ≡ n)

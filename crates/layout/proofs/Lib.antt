@@ -2,9 +2,11 @@ pub mod Walk
 pub mod Each
 pub mod Numbers
 pub mod InBytes
-pub mod InLeaves
+pub mod BadReads
+pub mod Judges
 pub mod Rows
 pub mod Alone
+pub mod Numbered
 pub mod Equations
 pub mod Tables
 pub mod Forms

@@ -8,7 +8,7 @@ use mathlib.Core.Path.{_≡_, refl}
 use lib.Dec.{eqb}
 use borrow.Author.Tests.{ne-eqb, eqb-false}
 use Rattle.layout.specs.Layout.{Fault, fine, wrong, nothing}
-use Rattle.layout.specs.Forms.{Tags, known, follows, bare}
+use Rattle.layout.specs.Forms.{Tags, _⇒_, known, follows}
 
 -- n is not in the table
 abbrev pub Outside : Tags → ℕ → Type 0
@@ -22,6 +22,11 @@ known-outside f (row ∷ rows) n h = rw (ne-eqb n (row .0) (h .0)) (known-outsid
 pub follows-outside : (rows : Tags) (n : ℕ) → Outside rows n → follows rows n ≡ nothing
 follows-outside [] n h = refl
 follows-outside (row ∷ rows) n h = rw (ne-eqb n (row .0) (h .0)) (follows-outside rows n (h .1))
+
+-- Tags with nothing after each: n of them, from a on
+abbrev pub bare : ℕ → ℕ → Tags
+bare a zero = []
+bare a (suc n) = a ⇒ nothing ∷ bare (suc a) n
 
 -- A bare tag
 pub bare-in : (f : Fault) (a k : ℕ) (rows : Tags) (n : ℕ) → a ≤ n → n < a + k → (known f (bare a k ++ rows) n ≡ fine) × (follows (bare a k ++ rows) n ≡ nothing)

@@ -4,7 +4,7 @@ use Prim.Native.Nat.{ℕ}
 use mathlib.Core.Bool.{Bool, true, false}
 use mathlib.Core.List.{List, [], _∷_, _++_}
 use mathlib.Core.Path.{_≡_, refl, ap, subst}
-use Rattle.layout.specs.Layout.{Sort, Leaf, plain, string, Verdict, fine, wrong, Layout, nothing, one, text, _then_, case, check, Value, leaves, Meets}
+use Rattle.layout.specs.Layout.{Sort, Leaf, plain, string, Fault, Verdict, fine, wrong, refusalOf, Layout, nothing, one, text, _then_, case, check, Value, leaves, valuesOf, Meets}
 use Rattle.layout.specs.Reading.{Outcome, ok, refuse, _>>=_, need, judged, Source, walk}
 
 -- P holds of what is read, if it is not refused
@@ -35,21 +35,49 @@ module _ {S A : Type 0} where
   all-when (ok a st) k = given (k a st refl)
   all-when (refuse n p) k = refused
 
+-- Q holds of the refusal, if it is one
+pub data Fails {S A : Type 0} (Q : ℕ → ℕ → Type 0) : Outcome S A → Type 0 where
+  good : {a : A} {st : S} → Fails Q (ok a st)
+  bad : {n p : ℕ} → Q n p → Fails Q (refuse n p)
+
+module _ {S A : Type 0} {Q : ℕ → ℕ → Type 0} where
+  pub fails-bind : {B : Type 0} {P : A → S → Type 0} (m : Outcome S A) (f : A → S → Outcome S B) → All P m → Fails Q m → ((a : A) (st : S) → P a st → Fails Q (f a st)) → Fails Q (m >>= f)
+  fails-bind m f (given {a} {st} h) q k = k a st h
+  fails-bind m f refused (bad q) k = bad q
+
+  pub fails-need : (b : Bool) (n p : ℕ) (rest : Outcome S A) → (b ≡ false → Q n p) → (b ≡ true → Fails Q rest) → Fails Q (need b n p rest)
+  fails-need true n p rest q k = k refl
+  fails-need false n p rest q k = bad (q refl)
+
+  pub fails-judged : (v : Verdict) (p : ℕ) (rest : Outcome S A) → ((f : Fault) → v ≡ wrong f → Q (refusalOf f) p) → (v ≡ fine → Fails Q rest) → Fails Q (judged v p rest)
+  fails-judged fine p rest q k = k refl
+  fails-judged (wrong f) p rest q k = bad (q f refl)
+
+  pub fails-map : {R : ℕ → ℕ → Type 0} {m : Outcome S A} → Fails Q m → ((n p : ℕ) → Q n p → R n p) → Fails R m
+  fails-map good k = good
+  fails-map (bad {n} {p} q) k = bad (k n p q)
+
+  pub fails-refuse : {n p : ℕ} {m : Outcome S A} → Fails Q m → m ≡ refuse n p → Q n p
+  fails-refuse {n} {p} {m} h e = go (rw e at h)
+    where
+      go : Fails {S = S} {A = A} Q (refuse n p) → Q n p
+      go (bad q) = q
+
 -- What a source must keep: `Begins st ls end` says that the leaves ls stand at st, and that end comes after them
-pub record Sound (S : Source) (F : Leaf → Type 0) (Begins : S .State → List Leaf → S .State → Type 0) : Type 0 where
-  pub none : (st : S .State) → Begins st [] st
-  pub join : {st m end : S .State} (a b : List Leaf) → Begins st a m → Begins m b end → Begins st (a ++ b) end
-  pub plainly : (srt : Sort) (st : S .State) → All (λ n end. F (plain srt n) × Begins st (plain srt n ∷ []) end) (S .takePlain srt st)
-  pub textly : (st : S .State) → All (λ t end. F (string t) × Begins st (string t ∷ []) end) (S .takeText st)
+pub record Sound (S : Source) (F : Leaf → Type 0) (Begins : S .Position → List Leaf → S .Position → Type 0) : Type 0 where
+  pub none : (st : S .Position) → Begins st [] st
+  pub join : {st m end : S .Position} (a b : List Leaf) → Begins st a m → Begins m b end → Begins st (a ++ b) end
+  pub plainly : (srt : Sort) (st : S .Position) → All (λ n end. F (plain srt n) × Begins st (plain srt n ∷ []) end) (S .takePlain srt st)
+  pub textly : (st : S .Position) → All (λ t end. F (string t) × Begins st (string t ∷ []) end) (S .takeText st)
 
-pub record Complete (S : Source) (F : Leaf → Type 0) (Begins : S .State → List Leaf → S .State → Type 0) : Type 0 where
-  pub none : {st end : S .State} → Begins st [] end → st ≡ end
-  pub part : {st end : S .State} (a b : List Leaf) → Begins st (a ++ b) end → (m : S .State) × Begins st a m × Begins m b end
-  pub plainly : {st end : S .State} (srt : Sort) (n : ℕ) → F (plain srt n) → Begins st (plain srt n ∷ []) end → S .takePlain srt st ≡ ok n end
-  pub textly : {st end : S .State} (t : List ℕ) → F (string t) → Begins st (string t ∷ []) end → S .takeText st ≡ ok t end
+pub record Complete (S : Source) (F : Leaf → Type 0) (Begins : S .Position → List Leaf → S .Position → Type 0) : Type 0 where
+  pub none : {st end : S .Position} → Begins st [] end → st ≡ end
+  pub part : {st end : S .Position} (a b : List Leaf) → Begins st (a ++ b) end → (m : S .Position) × Begins st a m × Begins m b end
+  pub plainly : {st end : S .Position} (srt : Sort) (n : ℕ) → F (plain srt n) → Begins st (plain srt n ∷ []) end → S .takePlain srt st ≡ ok n end
+  pub textly : {st end : S .Position} (t : List ℕ) → F (string t) → Begins st (string t ∷ []) end → S .takeText st ≡ ok t end
 
-module _ (S : Source) (F : Leaf → Type 0) (Begins : S .State → List Leaf → S .State → Type 0) where
-  pub sound : Sound S F Begins → (L : Layout) (st : S .State) → All (λ v end. Meets F L v × Begins st (leaves L v) end) (walk S L st)
+module _ (S : Source) (F : Leaf → Type 0) (Begins : S .Position → List Leaf → S .Position → Type 0) where
+  pub sound : Sound S F Begins → (L : Layout) (st : S .Position) → All (λ v end. Meets F L v × Begins st (leaves L v) end) (walk S L st)
   unfolding walk
   sound k nothing st = given (tt, k .none st)
   sound k (one srt) st = k .plainly srt st
@@ -66,10 +94,10 @@ module _ (S : Source) (F : Leaf → Type 0) (Begins : S .State → List Leaf →
       given ((p .0, q .0, e, r .0), k .join (plain srt n ∷ []) _ (p .1) (k .join (leaves A a) (leaves (B n) b) (q .1) (r .1)))
   sound k (check A j) st =
       all-bind (walk S A st) _ (sound k A st) λ a st₁ p.
-      all-judged (j (leaves A a)) (S .place st) _ λ e.
+      all-judged (j (valuesOf (leaves A a))) (S .place st) _ λ e.
       given ((p .0, e), p .1)
 
-  pub complete : Complete S F Begins → (L : Layout) (v : Value L) {st end : S .State} → Meets F L v → Begins st (leaves L v) end → walk S L st ≡ ok v end
+  pub complete : Complete S F Begins → (L : Layout) (v : Value L) {st end : S .Position} → Meets F L v → Begins st (leaves L v) end → walk S L st ≡ ok v end
   unfolding walk
   complete k nothing v p h = ap (ok tt) (k .none h)
   complete k (one srt) n p h = k .plainly srt n p h

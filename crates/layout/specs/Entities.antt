@@ -2,12 +2,11 @@
 -- src/section.rs, by whose names they go. Beside a part stands the name of its field, beside a tag that of its case.
 use Prim.Native.Nat.{ℕ}
 use mathlib.Core.Bool.{cond, _||_}
-use mathlib.Core.List.{List, [], _∷_, _++_, map}
+use mathlib.Core.List.{List, [], _∷_}
 use lib.Dec.{eqb}
 use lib.ListN.{getD}
-use Rattle.layout.specs.Layout.{Leaf, Verdict, fine, wrong, other-mapping, error-result, Layout, nothing, text, _then_, check}
-use Rattle.layout.specs.Written.{leafValue}
-use Rattle.layout.specs.Forms.{number, flag, list, may, Tags, _⇒_, kinds, tags, tagsAfter, bare}
+use Rattle.layout.specs.Layout.{Leaf, valuesOf, Verdict, fine, wrong, other-mapping, error-result, Layout, nothing, text, _then_, check}
+use Rattle.layout.specs.Forms.{number, flag, list, may, Tags, _⇒_, kinds, tags, tagsAfter}
 
 -- O: a text that may be missing
 unfoldable pub OptionStr : Layout
@@ -71,11 +70,17 @@ returnsTags =
 unfoldable pub Returns : Layout
 Returns = tags returnsTags
 
--- 1 SetOf, 2 Table, 3 NestedArray, 4 BareU8, 5 SkipInArray, 6 Datum
+-- The tags of an argument-side error
 abbrev pub argumentErrors : Tags
 argumentErrors =
-    bare 1 6
-    ++ (7 ⇒ text ∷ [])  -- NotValidAsArgument
+    1 ⇒ nothing  -- SetOf
+    ∷ 2 ⇒ nothing  -- Table
+    ∷ 3 ⇒ nothing  -- NestedArray
+    ∷ 4 ⇒ nothing  -- BareU8
+    ∷ 5 ⇒ nothing  -- SkipInArray
+    ∷ 6 ⇒ nothing  -- Datum
+    ∷ 7 ⇒ text  -- NotValidAsArgument
+    ∷ []
 
 -- Why a type is no argument
 unfoldable pub ArgumentError : Layout
@@ -92,10 +97,24 @@ argumentResults =
 unfoldable pub ArgumentSql : Layout
 ArgumentSql = tags argumentResults
 
--- 1 NestedSetOf, 2 NestedTable, 3 NestedArray, 4 SetOfContainingTable, 5 TableContainingSetOf, 6 SetOfInArray,
--- 7 TableInArray, 8 BareU8, 9 SkipInArray, 10 Datum
+-- The tags of a return-side error
+abbrev pub returnsErrors : Tags
+returnsErrors =
+    1 ⇒ nothing  -- NestedSetOf
+    ∷ 2 ⇒ nothing  -- NestedTable
+    ∷ 3 ⇒ nothing  -- NestedArray
+    ∷ 4 ⇒ nothing  -- SetOfContainingTable
+    ∷ 5 ⇒ nothing  -- TableContainingSetOf
+    ∷ 6 ⇒ nothing  -- SetOfInArray
+    ∷ 7 ⇒ nothing  -- TableInArray
+    ∷ 8 ⇒ nothing  -- BareU8
+    ∷ 9 ⇒ nothing  -- SkipInArray
+    ∷ 10 ⇒ nothing  -- Datum
+    ∷ []
+
+-- Why a type is not returned
 unfoldable pub ReturnsError : Layout
-ReturnsError = tags (bare 1 10)
+ReturnsError = tags returnsErrors
 
 -- The tags of a return-side result
 abbrev pub returnResults : Tags
@@ -129,9 +148,16 @@ ToSqlConfig =
     flag  -- enabled
     then OptionStr  -- content
 
--- 1 ThisExtension, 2 External
+-- The tags of a type's origin
+abbrev pub typeOrigins : Tags
+typeOrigins =
+    1 ⇒ nothing  -- ThisExtension
+    ∷ 2 ⇒ nothing  -- External
+    ∷ []
+
+-- A type's origin
 unfoldable pub TypeOrigin : Layout
-TypeOrigin = tags (bare 1 2)
+TypeOrigin = tags typeOrigins
 
 -- Where a type comes from
 unfoldable pub Resolution : Layout
@@ -203,15 +229,22 @@ pgExternReturns =
 unfoldable pub PgExternReturn : Layout
 PgExternReturn = tags pgExternReturns
 
--- 1 CreateOrReplace, 2 Immutable, 3 Strict, 4 Stable, 5 Volatile, 6 Raw, 7 NoGuard, 8 SecurityDefiner, 9 SecurityInvoker,
--- 10 ParallelSafe, 11 ParallelUnsafe, 12 ParallelRestricted
-abbrev pub bareExternArgs : Tags
-bareExternArgs = bare 1 12
-
--- The other attributes
-abbrev pub otherExternArgs : Tags
-otherExternArgs =
-    13 ⇒ text  -- ShouldPanic
+-- The tags of a function's attribute
+abbrev pub externArgs : Tags
+externArgs =
+    1 ⇒ nothing  -- CreateOrReplace
+    ∷ 2 ⇒ nothing  -- Immutable
+    ∷ 3 ⇒ nothing  -- Strict
+    ∷ 4 ⇒ nothing  -- Stable
+    ∷ 5 ⇒ nothing  -- Volatile
+    ∷ 6 ⇒ nothing  -- Raw
+    ∷ 7 ⇒ nothing  -- NoGuard
+    ∷ 8 ⇒ nothing  -- SecurityDefiner
+    ∷ 9 ⇒ nothing  -- SecurityInvoker
+    ∷ 10 ⇒ nothing  -- ParallelSafe
+    ∷ 11 ⇒ nothing  -- ParallelUnsafe
+    ∷ 12 ⇒ nothing  -- ParallelRestricted
+    ∷ 13 ⇒ text  -- ShouldPanic
     ∷ 14 ⇒ text  -- Schema
     ∷ 15 ⇒ PositioningRef  -- Support
     ∷ 16 ⇒ text  -- Name
@@ -221,7 +254,7 @@ otherExternArgs =
 
 -- A function's attribute
 unfoldable pub ExternArg : Layout
-ExternArg = tags (bareExternArgs ++ otherExternArgs)
+ExternArg = tags externArgs
 
 -- A function's attributes
 unfoldable pub ExternArgList : Layout
@@ -246,9 +279,17 @@ Operator =
 unfoldable pub OptionOperator : Layout
 OptionOperator = may Operator
 
--- 1 Default, 2 Assignment, 3 Implicit
+-- The tags of a cast
+abbrev pub casts : Tags
+casts =
+    1 ⇒ nothing  -- Default
+    ∷ 2 ⇒ nothing  -- Assignment
+    ∷ 3 ⇒ nothing  -- Implicit
+    ∷ []
+
+-- A cast
 unfoldable pub Cast : Layout
-Cast = tags (bare 1 3)
+Cast = tags casts
 
 -- A cast that may be missing
 unfoldable pub OptionCast : Layout
@@ -256,7 +297,7 @@ OptionCast = may Cast
 
 -- The value of the i-th of some leaves, from 0
 abbrev pub valueIn : List Leaf → ℕ → ℕ
-valueIn ls i = getD (map leafValue ls) i 0
+valueIn ls i = getD (valuesOf ls) i 0
 
 -- The verdict on an argument-side result by its first two tags: the first is the result's; where that is Ok, the second is
 -- the mapping's, which must be As or Numeric
@@ -264,9 +305,9 @@ abbrev pub asOrNumeric : ℕ → ℕ → Verdict
 asOrNumeric result mapping =
     cond (eqb result 1) (cond (eqb mapping 1 || eqb mapping 3) fine (wrong other-mapping)) (wrong error-result)
 
--- The same, from the leaves
-abbrev pub resultVerdict : List Leaf → Verdict
-resultVerdict ls = asOrNumeric (valueIn ls 0) (valueIn ls 1)
+-- The same, from the values of the leaves
+abbrev pub resultVerdict : List ℕ → Verdict
+resultVerdict values = asOrNumeric (getD values 0 0) (getD values 1 0)
 
 -- A declaration's result
 unfoldable pub DeclaredSql : Layout
@@ -294,17 +335,33 @@ SqlDeclared = tagsAfter text sqlDeclareds
 unfoldable pub SqlDeclaredList : Layout
 SqlDeclaredList = list SqlDeclared
 
--- 1 ReadOnly, 2 Shareable, 3 ReadWrite
+-- What a final function may modify
+abbrev pub finalizeModifies : Tags
+finalizeModifies =
+    1 ⇒ nothing  -- ReadOnly
+    ∷ 2 ⇒ nothing  -- Shareable
+    ∷ 3 ⇒ nothing  -- ReadWrite
+    ∷ []
+
+-- Whether an aggregate's final function modifies its state
 unfoldable pub FinalizeModify : Layout
-FinalizeModify = tags (bare 1 3)
+FinalizeModify = tags finalizeModifies
 
 -- The same, if it is there
 unfoldable pub OptionFinalizeModify : Layout
 OptionFinalizeModify = may FinalizeModify
 
--- 1 Safe, 2 Restricted, 3 Unsafe
+-- The tags of an aggregate's parallel option
+abbrev pub parallelOptions : Tags
+parallelOptions =
+    1 ⇒ nothing  -- Safe
+    ∷ 2 ⇒ nothing  -- Restricted
+    ∷ 3 ⇒ nothing  -- Unsafe
+    ∷ []
+
+-- Whether an aggregate may run in parallel
 unfoldable pub ParallelOption : Layout
-ParallelOption = tags (bare 1 3)
+ParallelOption = tags parallelOptions
 
 -- The same, if it is there
 unfoldable pub OptionParallelOption : Layout
@@ -430,8 +487,8 @@ Trigger =
     then ToSqlConfig  -- to_sql_config
 
 -- The kinds of entities
-abbrev pub entities : Tags
-entities =
+abbrev pub entityKinds : Tags
+entityKinds =
     1 ⇒ Schema
     ∷ 2 ⇒ CustomSql
     ∷ 3 ⇒ Function
@@ -445,4 +502,4 @@ entities =
 
 -- One entity: its kind, and a value for each part of that kind's layout
 unfoldable pub Entity : Layout
-Entity = kinds entities
+Entity = kinds entityKinds

@@ -65,8 +65,3 @@ tags rows = case Tag nothing (known unknown-tag rows) (follows rows)
 -- A tag that is judged only after another part, which stands before what follows the tag
 abbrev pub tagsAfter : Layout → Tags → Layout
 tagsAfter L rows = case Tag L (known unknown-tag rows) (follows rows)
-
--- Tags, with nothing after each: n of them, from a on
-abbrev pub bare : ℕ → ℕ → Tags
-bare a zero = []
-bare a (suc n) = a ⇒ nothing ∷ bare (suc a) n

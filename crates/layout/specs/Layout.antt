@@ -1,7 +1,7 @@
 -- Layouts: what a part of an entity is made of; the values of a layout, which are its derivations; their leaves.
 -- Nothing here is taken from the reader.
 use Prim.Native.Nat.{ℕ, _<_}
-use mathlib.Core.List.{List, [], _∷_, _++_}
+use mathlib.Core.List.{List, [], _∷_, _++_, map}
 use mathlib.Core.Path.{_≡_}
 use lib.ListN.{length}
 use Rattle.text.specs.Rfc3629.{Utf8}
@@ -19,6 +19,15 @@ pub data Sort : Type 0 where
 pub data Leaf : Type 0 where
   plain : Sort → ℕ → Leaf
   string : List ℕ → Leaf
+
+-- The value of a leaf: of a text its byte length
+abbrev pub leafValue : Leaf → ℕ
+leafValue (plain srt n) = n
+leafValue (string t) = length t
+
+-- The values of leaves, which are all that a judge sees: no judge sees the bytes of a text
+abbrev pub valuesOf : List Leaf → List ℕ
+valuesOf ls = map leafValue ls
 
 -- What a layout itself refuses: an unknown kind; another unknown tag; of a declaration's result, a mapping that is neither As
 -- nor Numeric, and an error
@@ -43,7 +52,7 @@ pub data Verdict : Type 0 where
 infixr 30 _then_
 -- `one srt`: a leaf that holds a number. `text`: a text. `A then B`: A, and B after it.
 -- `case srt before judge branch`: a leaf that holds a number n, then `before`; only then n is judged; then `branch n`.
--- `check A judge`: A, whose leaves are then judged.
+-- `check A judge`: A, whose leaves are then judged by their values.
 -- What is judged wrong is refused at the leaf's place, or at the place where A begins.
 pub data Layout : Type 0 where
   nothing : Layout
@@ -51,7 +60,7 @@ pub data Layout : Type 0 where
   text : Layout
   _then_ : Layout → Layout → Layout
   case : Sort → (before : Layout) → (judge : ℕ → Verdict) → (branch : ℕ → Layout) → Layout
-  check : Layout → (judge : List Leaf → Verdict) → Layout
+  check : Layout → (judge : List ℕ → Verdict) → Layout
 
 -- A value for each part of a layout
 abbrev pub Value : Layout → Type 0
@@ -78,7 +87,7 @@ Meets F (one srt) n = F (plain srt n)
 Meets F text t = F (string t)
 Meets F (A then B) v = Meets F A (v .0) × Meets F B (v .1)
 Meets F (case srt A j B) v = F (plain srt (v .0)) × Meets F A (v .1) × (j (v .0) ≡ fine) × Meets F (B (v .0)) (v .2)
-Meets F (check A j) v = Meets F A v × (j (leaves A v) ≡ fine)
+Meets F (check A j) v = Meets F A v × (j (valuesOf (leaves A v)) ≡ fine)
 
 -- What a leaf's number stays below: a byte, 0 or 1, four bytes
 abbrev pub bound : Sort → ℕ

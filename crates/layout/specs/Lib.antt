@@ -1,10 +1,11 @@
 pub mod Layout
 pub mod Written
+pub mod BadReads
 pub mod Forms
 pub mod Entities
 pub mod Reading
 pub mod Machine
-pub mod Spelling
 pub mod Answers
 pub mod Alone
+pub mod ReadAlone
 pub mod Theorems

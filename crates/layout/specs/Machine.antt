@@ -2,7 +2,7 @@
 -- writer.
 use Prim.Native.Nat.{ℕ}
 use mathlib.Core.List.{List}
-use Rattle.layout.specs.Layout.{Sort, Leaf, Fault, Verdict, fine, wrong, Layout, nothing, one, text, _then_, case, check}
+use Rattle.layout.specs.Layout.{Sort, Leaf, valuesOf, Fault, Verdict, fine, wrong, Layout, nothing, one, text, _then_, case, check}
 use Rattle.layout.specs.Reading.{Outcome, ok, refuse}
 
 -- A step for each sort of leaf, and what the branches and the judges of a layout need
@@ -14,11 +14,11 @@ pub record Machine (T : Type 0) : Type 0 where
   -- a state that is refused, since what began at another state is wrong
   pub halt : Fault → (begin state : T) → T
   -- what a judge says of the leaves of a layout that begin at a state
-  pub verdict : Layout → (judge : List Leaf → Verdict) → T → Verdict
+  pub verdict : Layout → (judge : List ℕ → Verdict) → T → Verdict
 
 -- The verdict on leaves, if they were not refused
-abbrev pub verdictOn : {S : Type 0} → (List Leaf → Verdict) → Outcome S (List Leaf) → Verdict
-verdictOn judge (ok ls end) = judge ls
+abbrev pub verdictOn : {S : Type 0} → (List ℕ → Verdict) → Outcome S (List Leaf) → Verdict
+verdictOn judge (ok ls end) = judge (valuesOf ls)
 verdictOn judge (refuse n p) = fine
 
 module _ {T : Type 0} (M : Machine T) where

@@ -4,7 +4,7 @@ use mathlib.Core.Bool.{Bool, true, false}
 use mathlib.Core.List.{List}
 use lib.Dec.{ltb, leb}
 use lib.ListN.{length, getD, take, drop}
-use Rattle.layout.specs.Layout.{Sort, Kind, Tag, Flag, Number, Count, Leaf, Verdict, fine, wrong, refusalOf, Layout, nothing, one, text, _then_, case, check, Value, leaves}
+use Rattle.layout.specs.Layout.{Sort, Kind, Tag, Flag, Number, Count, Leaf, Verdict, fine, wrong, refusalOf, Layout, nothing, one, text, _then_, case, check, Value, leaves, valuesOf}
 use Rattle.text.specs.Walk as automaton
 
 -- What a read comes to: a value and the state after it, or a refusal's number and place
@@ -29,15 +29,15 @@ module _ {S A : Type 0} where
   judged fine p rest = rest
   judged (wrong f) p rest = refuse (refusalOf f) p
 
--- What leaves are read from: a read for each sort of leaf, and the place of a state
+-- What leaves are read from: a read for each sort of leaf, and the place of a position
 pub record Source : Type 1 where
-  pub State : Type 0
-  pub takePlain : Sort → State → Outcome State ℕ
-  pub takeText : State → Outcome State (List ℕ)
-  pub place : State → ℕ
+  pub Position : Type 0
+  pub takePlain : Sort → Position → Outcome Position ℕ
+  pub takeText : Position → Outcome Position (List ℕ)
+  pub place : Position → ℕ
 
 -- The reading of a layout from any source
-unfoldable pub walk : (S : Source) (L : Layout) → S .State → Outcome (S .State) (Value L)
+unfoldable pub walk : (S : Source) (L : Layout) → S .Position → Outcome (S .Position) (Value L)
 walk S nothing st = ok tt st
 walk S (one srt) st = S .takePlain srt st
 walk S text st = S .takeText st
@@ -49,10 +49,10 @@ walk S (case srt A j B) st =
     walk S A st₁ >>= λ a st₂.
     judged (j n) (S .place st)
     (walk S (B n) st₂ >>= λ b st₃. ok (n, a, b) st₃)
-walk S (check A j) st = walk S A st >>= λ a st₁. judged (j (leaves A a)) (S .place st) (ok a st₁)
+walk S (check A j) st = walk S A st >>= λ a st₁. judged (j (valuesOf (leaves A a))) (S .place st) (ok a st₁)
 
 -- The leaves of a layout that are read from any source
-abbrev pub leavesAt : (S : Source) (L : Layout) → S .State → Outcome (S .State) (List Leaf)
+abbrev pub leavesAt : (S : Source) (L : Layout) → S .Position → Outcome (S .Position) (List Leaf)
 leavesAt S L st = walk S L st >>= λ v end. ok (leaves L v) end
 
 -- A text is valid by RFC 3629
@@ -95,9 +95,9 @@ bodyAt s n at = need (enough s at n) 5 at (need (utf8 (take n (drop at s))) 7 at
 abbrev pub textAt : List ℕ → ℕ → Outcome ℕ (List ℕ)
 textAt s at = fourAt s at >>= λ n at₁. bodyAt s n at₁
 
--- The bytes up to the payload's end, as a source: its states are places
+-- The bytes up to the payload's end, as a source: its positions are places
 abbrev pub inBytes : List ℕ → Source
-inBytes s = record { State = ℕ; takePlain = plainAt s; takeText = textAt s; place = λ at. at }
+inBytes s = record { Position = ℕ; takePlain = plainAt s; takeText = textAt s; place = λ at. at }
 
 -- The value of a layout at a place of s, and where it ends
 unfoldable pub readValue : (L : Layout) → List ℕ → ℕ → Outcome ℕ (Value L)

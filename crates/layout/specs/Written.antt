@@ -1,7 +1,8 @@
 -- What a value derives: the bytes of its leaves, and their rows. Nothing here is taken from the reader.
 use Prim.Native.Nat.{ℕ, _+_, _*_, _/_, _%_}
 use mathlib.Core.List.{List, [], _∷_, _++_}
-use lib.ListN.{length, getD}
+use mathlib.Core.Path.{_≡_}
+use lib.ListN.{length, getD, drop}
 use Rattle.layout.specs.Layout.{Sort, Kind, Tag, Flag, Number, Count, Leaf, plain, string, Layout, Value, leaves}
 
 -- Four bytes, little-endian
@@ -15,6 +16,14 @@ plainBytes Tag n = n ∷ []
 plainBytes Flag n = n ∷ []
 plainBytes Number n = four n
 plainBytes Count n = four n
+
+-- How many bytes these are
+abbrev pub width : Sort → ℕ
+width Kind = 1
+width Tag = 1
+width Flag = 1
+width Number = 4
+width Count = 4
 
 -- The bytes of a leaf; a text has its length before it
 abbrev pub leafBytes : Leaf → List ℕ
@@ -30,6 +39,10 @@ bytesOf (x ∷ ls) = leafBytes x ++ bytesOf ls
 abbrev pub bytes : (L : Layout) → Value L → List ℕ
 bytes L v = bytesOf (leaves L v)
 
+-- The bytes b stand in s from `at` up to `end`
+abbrev pub Stand : List ℕ → (at : ℕ) → List ℕ → (end : ℕ) → Type 0
+Stand s at b end = (drop at s ≡ b ++ drop end s) × (end ≡ at + length b)
+
 -- The numbers of a row
 abbrev pub rowWidth : ℕ
 rowWidth = 3
@@ -42,15 +55,14 @@ sortNumber Flag = 3
 sortNumber Number = 4
 sortNumber Count = 5
 
--- The value in a row: of a text its byte length
-abbrev pub leafValue : Leaf → ℕ
-leafValue (plain srt n) = n
-leafValue (string t) = length t
+-- A text's sort
+abbrev pub textSort : ℕ
+textSort = 6
 
 -- The row of a leaf that begins at a place: sort, offset, value. A text's offset is its first byte after its 4-byte length
 abbrev pub rowAt : ℕ → Leaf → List ℕ
 rowAt at (plain srt n) = sortNumber srt ∷ at ∷ n ∷ []
-rowAt at (string t) = 6 ∷ (at + 4) ∷ length t ∷ []
+rowAt at (string t) = textSort ∷ (at + 4) ∷ length t ∷ []
 
 -- The rows of leaves of which the first begins at a place
 abbrev pub rowsFrom : ℕ → List Leaf → List ℕ

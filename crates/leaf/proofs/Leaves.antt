@@ -10,34 +10,34 @@ use borrow.Author.Tests.{eq-eqb, ne-eqb, lt-leb, le-leb}
 use Rattle.layout.specs.Layout.{Sort, plain, string}
 use Rattle.layout.specs.Written.{sortNumber}
 use Rattle.layout.specs.Reading.{Outcome, ok, refuse, _>>=_, utf8, numberAt, textAt}
-use Rattle.layout.specs.Alone.{limit}
+use Rattle.layout.specs.Answers.{limit}
 use Rattle.leaf.specs.declared.Cursor.{Cursor}
-use Rattle.leaf.specs.State.{State, state, lengthAt, stopped, stop, put, arrive, guarded}
-use Rattle.leaf.specs.Private.{land}
+use Rattle.leaf.specs.State.{ReadState, readState, lengthAt, stopped, stop, put, arrive, guarded}
+use Rattle.leaf.specs.Private.{putNumber}
 use Rattle.text.specs.Walk as automaton
 
 -- A number that lands with its sort's number arrives as a leaf of the sort
-pub land-plain : (srt : Sort) (o : Outcome ℕ ℕ) (st : State) → land (sortNumber srt) o st ≡ arrive (o >>= λ n next. ok (plain srt n) next) st
+pub land-plain : (srt : Sort) (o : Outcome ℕ ℕ) (st : ReadState) → putNumber (sortNumber srt) o st ≡ arrive (o >>= λ n next. ok (plain srt n) next) st
 land-plain srt (ok n next) st = refl
 land-plain srt (refuse n p) st = refl
 
 -- The tests that come first
-module _ (s table : List ℕ) (c : Cursor) (out : State) where
-  pub refused-stays : (c .refusal ≡ 0 → ⊥) → state c table ≡ guarded s out (state c table)
+module _ (s table : List ℕ) (c : Cursor) (out : ReadState) where
+  pub refused-stays : (c .refusal ≡ 0 → ⊥) → readState c table ≡ guarded s out (readState c table)
   unfolding guarded
   refused-stays h = rw (ne-eqb _ _ h)
 
   module _ (z : c .refusal ≡ 0) where
-    pub long-stops : limit < length s → (r : Cursor) → r ≡ stopped 1 0 c → state r table ≡ guarded s out (state c table)
+    pub long-stops : limit < length s → (r : Cursor) → r ≡ stopped 1 0 c → readState r table ≡ guarded s out (readState c table)
     unfolding guarded
     long-stops h r e = rw (eq-eqb _ _ z, lt-leb (length s) limit h, e)
 
-    pub goes-on : length s ≤ limit → (r : State) → r ≡ out → r ≡ guarded s out (state c table)
+    pub goes-on : length s ≤ limit → (r : ReadState) → r ≡ out → r ≡ guarded s out (readState c table)
     unfolding guarded
     goes-on h r e = rw (eq-eqb _ _ z, le-leb (length s) limit h) e
 
 -- A text. n is the number in its four length bytes
-module _ (s : List ℕ) (st : State) (n : ℕ) (e : n ≡ numberAt s (st .cursor .at)) (h : st .cursor .at + 4 ≤ length s) where
+module _ (s : List ℕ) (st : ReadState) (n : ℕ) (e : n ≡ numberAt s (st .cursor .at)) (h : st .cursor .at + 4 ≤ length s) where
   abbrev at : ℕ
   at = st .cursor .at
 

@@ -12,7 +12,7 @@ use Rattle.layout.specs.Layout.{Leaf, plain, string}
 use Rattle.layout.specs.Written.{leafBytes, rowWidth, rowAt, rowsFrom}
 use Rattle.layout.specs.Reading.{Outcome, ok, refuse}
 use Rattle.layout.specs.Answers.{wholeRows}
-use Rattle.leaf.specs.State.{State, store, room, arrive}
+use Rattle.leaf.specs.State.{ReadState, store, room, arrive}
 use Rattle.leaf.specs.Private.{cleared}
 use Rattle.leaf.specs.Theorems.{arriveAll}
 
@@ -49,14 +49,14 @@ store-take (x ∷ xs) t i h =
     ap (λ (n : ℕ). take n (store (set t i x) (i + 1) xs)) a ∙ e ∙ ap (λ (l : List ℕ). l ++ xs) f ∙ append-assoc (take i t) (x ∷ []) xs
 
 -- A leaf behind where a state stands
-abbrev pub push : Leaf → State → State
+abbrev pub push : Leaf → ReadState → ReadState
 push x st = arrive (ok x (st .cursor .at + length (leafBytes x))) st
 
 row-length : (at : ℕ) (x : Leaf) → length (rowAt at x) ≡ rowWidth
 row-length at (plain srt n) = refl
 row-length at (string t) = refl
 
-pub arrive-length : (o : Outcome ℕ Leaf) (st : State) → length (arrive o st .table) ≡ length (st .table)
+pub arrive-length : (o : Outcome ℕ Leaf) (st : ReadState) → length (arrive o st .table) ≡ length (st .table)
 arrive-length (ok x next) st = go (room st)
   where
     go : (b : Bool) → length (cond b (store (st .table) (rowWidth * st .cursor .rows) (rowAt (st .cursor .at) x)) (st .table)) ≡ length (st .table)
@@ -64,20 +64,20 @@ arrive-length (ok x next) st = go (room st)
     go false = refl
 arrive-length (refuse n p) st = refl
 
-push-length : (x : Leaf) (st : State) → length (push x st .table) ≡ length (st .table)
+push-length : (x : Leaf) (st : ReadState) → length (push x st .table) ≡ length (st .table)
 push-length x st = arrive-length (ok x (st .cursor .at + length (leafBytes x))) st
 
-pub arriveAll-length : (ls : List Leaf) (st : State) → length (arriveAll ls st .table) ≡ length (st .table)
+pub arriveAll-length : (ls : List Leaf) (st : ReadState) → length (arriveAll ls st .table) ≡ length (st .table)
 arriveAll-length [] st = refl
 arriveAll-length (x ∷ ls) st = arriveAll-length ls (push x st) ∙ push-length x st
 
 -- The rows of ls are stored behind those of st
-pub record Filled (at : ℕ) (ls : List Leaf) (st r : State) : Type 0 where
+pub record Filled (at : ℕ) (ls : List Leaf) (st r : ReadState) : Type 0 where
   pub rows : r .cursor .rows ≡ st .cursor .rows + length ls
   pub short : r .cursor .short ≡ st .cursor .short
   pub front : take (rowWidth * r .cursor .rows) (r .table) ≡ take (rowWidth * st .cursor .rows) (st .table) ++ rowsFrom at ls
 
-push-fills : (x : Leaf) (st : State) → st .cursor .rows < wholeRows (st .table)
+push-fills : (x : Leaf) (st : ReadState) → st .cursor .rows < wholeRows (st .table)
     → (push x st .cursor .rows ≡ st .cursor .rows + 1) × (push x st .cursor .short ≡ st .cursor .short)
     × (take (rowWidth * push x st .cursor .rows) (push x st .table) ≡ take (rowWidth * st .cursor .rows) (st .table) ++ rowAt (st .cursor .at) x)
 push-fills x st h =
@@ -87,7 +87,7 @@ push-fills x st h =
     let q : rowWidth * (st .cursor .rows + 1) ≡ rowWidth * st .cursor .rows + length row = omega arith in
     (rw e, rw e, rw (e, q) (store-take row (st .table) (rowWidth * st .cursor .rows) (omega arith)))
 
-pub fills : (ls : List Leaf) (st : State) → st .cursor .rows + length ls ≤ wholeRows (st .table) → Filled (st .cursor .at) ls st (arriveAll ls st)
+pub fills : (ls : List Leaf) (st : ReadState) → st .cursor .rows + length ls ≤ wholeRows (st .table) → Filled (st .cursor .at) ls st (arriveAll ls st)
 fills [] st h = record { rows = omega arith; short = refl; front = rw append-nil }
 fills (x ∷ ls) st h =
     let (a, b, c) = push-fills x st (omega arith) in
@@ -99,18 +99,18 @@ fills (x ∷ ls) st h =
     }
 
 -- If they do not fit, the cursor is short
-push-short : (x : Leaf) (st : State) → st .cursor .short ≡ 1 → push x st .cursor .short ≡ 1
+push-short : (x : Leaf) (st : ReadState) → st .cursor .short ≡ 1 → push x st .cursor .short ≡ 1
 push-short x st h = go (room st)
   where
     go : (b : Bool) → cond b (st .cursor .short) 1 ≡ 1
     go true = h
     go false = refl
 
-pub stays-short : (ls : List Leaf) (st : State) → st .cursor .short ≡ 1 → arriveAll ls st .cursor .short ≡ 1
+pub stays-short : (ls : List Leaf) (st : ReadState) → st .cursor .short ≡ 1 → arriveAll ls st .cursor .short ≡ 1
 stays-short [] st h = h
 stays-short (x ∷ ls) st h = stays-short ls (push x st) (push-short x st h)
 
-pub shorts : (ls : List Leaf) (st : State) → wholeRows (st .table) < st .cursor .rows + length ls → st .cursor .rows ≤ wholeRows (st .table) → arriveAll ls st .cursor .short ≡ 1
+pub shorts : (ls : List Leaf) (st : ReadState) → wholeRows (st .table) < st .cursor .rows + length ls → st .cursor .rows ≤ wholeRows (st .table) → arriveAll ls st .cursor .short ≡ 1
 shorts [] st h k = absurd (omega arith)
 shorts (x ∷ ls) st h k = go (room st) refl (λ a b. shorts ls (push x st) a b)
   where

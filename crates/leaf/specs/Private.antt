@@ -3,12 +3,12 @@ use Prim.Native.Nat.{ℕ, _-_}
 use mathlib.Core.List.{List, [], _∷_, _++_}
 use lib.ListN.{length, take, replicate}
 use Rattle.layout.specs.Reading.{Outcome, ok, refuse}
-use Rattle.leaf.specs.State.{State, stop, put}
+use Rattle.leaf.specs.State.{ReadState, stop, put}
 
 -- A number that is read, as a leaf with a sort's number
-abbrev pub land : (sort : ℕ) → Outcome ℕ ℕ → State → State
-land sort (ok n next) st = put (sort ∷ st .cursor .at ∷ n ∷ []) n next st
-land sort (refuse n p) st = stop n p st
+abbrev pub putNumber : (sort : ℕ) → Outcome ℕ ℕ → ReadState → ReadState
+putNumber sort (ok n next) st = put (sort ∷ st .cursor .at ∷ n ∷ []) n next st
+putNumber sort (refuse n p) st = stop n p st
 
 -- A table with 0 from an index on
 unfoldable pub cleared : List ℕ → (from : ℕ) → List ℕ

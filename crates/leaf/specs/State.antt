@@ -1,28 +1,27 @@
 -- Where a reading stands: a cursor, and the table that it fills; and what the read of one leaf makes of the two.
 use Prim.Native.Nat.{ℕ, _+_, _*_}
-use mathlib.Core.Bool.{Bool, true, false, cond}
+use mathlib.Core.Bool.{Bool, cond}
 use mathlib.Core.List.{List, [], _∷_}
 use lib.Dec.{eqb, ltb, leb}
 use lib.ListN.{length, set}
-use Rattle.layout.specs.Layout.{Sort, Leaf, plain, string}
-use Rattle.layout.specs.Written.{rowWidth, leafValue, rowAt}
+use Rattle.layout.specs.Layout.{Sort, Leaf, plain, string, leafValue}
+use Rattle.layout.specs.Written.{rowWidth, rowAt}
 use Rattle.layout.specs.Reading.{Outcome, ok, refuse, _>>=_, enough, numberAt, plainAt, textAt}
-use Rattle.layout.specs.Answers.{wholeRows}
-use Rattle.layout.specs.Alone.{limit}
+use Rattle.layout.specs.Answers.{limit, wholeRows}
 use Rattle.leaf.specs.declared.Cursor.{Cursor}
 
 -- A cursor with its table
-pub record State : Type 0 where
+pub record ReadState : Type 0 where
   pub cursor : Cursor
   pub table : List ℕ
 
 -- The two together
-abbrev pub state : Cursor → List ℕ → State
-state c table = record { cursor = c; table = table }
+abbrev pub readState : Cursor → List ℕ → ReadState
+readState c table = record { cursor = c; table = table }
 
 -- The cursor of a reading that begins
-abbrev pub start : Cursor
-start = record { at = 0; rows = 0; refusal = 0; short = 0; place = 0; value = 0 }
+abbrev pub newCursor : Cursor
+newCursor = record { at = 0; rows = 0; refusal = 0; short = 0; place = 0; value = 0 }
 
 -- The cursor at another place
 abbrev pub seek : (at : ℕ) → Cursor → Cursor
@@ -41,8 +40,8 @@ abbrev pub refusedOnce : (number place : ℕ) → Cursor → Cursor
 refusedOnce n p c = cond (eqb (c .refusal) 0) (stopped n p c) c
 
 -- A state whose cursor is refused
-abbrev pub stop : (number place : ℕ) → State → State
-stop n p st = state (stopped n p (st .cursor)) (st .table)
+abbrev pub stop : (number place : ℕ) → ReadState → ReadState
+stop n p st = readState (stopped n p (st .cursor)) (st .table)
 
 -- Numbers stored one after the other, from an index on
 abbrev pub store : List ℕ → (index : ℕ) → List ℕ → List ℕ
@@ -50,13 +49,13 @@ store table i [] = table
 store table i (x ∷ xs) = store (set table i x) (i + 1) xs
 
 -- The table has room for a whole row behind those stored so far
-abbrev pub room : State → Bool
+abbrev pub room : ReadState → Bool
 room st = ltb (st .cursor .rows) (wholeRows (st .table))
 
 -- A leaf is read: its row is stored if there is room, and the reading goes on behind it
-abbrev pub put : (row : List ℕ) (value next : ℕ) → State → State
+abbrev pub put : (row : List ℕ) (value next : ℕ) → ReadState → ReadState
 put row value next st =
-    state
+    readState
     (record {
       at = next;
       rows = cond (room st) (st .cursor .rows + 1) (st .cursor .rows);
@@ -68,18 +67,18 @@ put row value next st =
     (cond (room st) (store (st .table) (rowWidth * st .cursor .rows) row) (st .table))
 
 -- What a leaf's read makes of a state: its row is put, or it is refused
-abbrev pub arrive : Outcome ℕ Leaf → State → State
+abbrev pub arrive : Outcome ℕ Leaf → ReadState → ReadState
 arrive (ok x next) st = put (rowAt (st .cursor .at) x) (leafValue x) next st
 arrive (refuse n p) st = stop n p st
 
 -- A refused cursor stays as it is; too many bytes are refused first
-unfoldable pub guarded : List ℕ → (out st : State) → State
+unfoldable pub guarded : List ℕ → (out st : ReadState) → ReadState
 guarded s out st = cond (eqb (st .cursor .refusal) 0) (cond (leb (length s) limit) out (stop 1 0 st)) st
 
 -- The read of a leaf that holds a number
-unfoldable pub plainStep : Sort → List ℕ → State → State
-plainStep srt s st = guarded s (arrive (plainAt s srt (st .cursor .at) >>= λ n next. ok (plain srt n) next) st) st
+unfoldable pub readPlain : Sort → List ℕ → ReadState → ReadState
+readPlain srt s st = guarded s (arrive (plainAt s srt (st .cursor .at) >>= λ n next. ok (plain srt n) next) st) st
 
 -- The read of a text
-unfoldable pub textStep : List ℕ → State → State
-textStep s st = guarded s (arrive (textAt s (st .cursor .at) >>= λ t next. ok (string t) next) st) st
+unfoldable pub readText : List ℕ → ReadState → ReadState
+readText s st = guarded s (arrive (textAt s (st .cursor .at) >>= λ t next. ok (string t) next) st) st

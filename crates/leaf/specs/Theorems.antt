@@ -6,33 +6,34 @@ use lib.ListN.{length}
 use Rattle.layout.specs.Layout.{Leaf, Layout}
 use Rattle.layout.specs.Written.{leafBytes}
 use Rattle.layout.specs.Reading.{Outcome, ok, refuse, read}
-use Rattle.layout.specs.Alone.{limit, readingAlone}
-use Rattle.leaf.specs.State.{State, state, start, arrive}
+use Rattle.layout.specs.Answers.{limit}
+use Rattle.layout.specs.ReadAlone.{readingAlone}
+use Rattle.leaf.specs.State.{ReadState, readState, newCursor, arrive}
 use Rattle.leaf.specs.Run.{run}
 use Rattle.leaf.specs.Finish.{finished}
 
 -- Leaves that are read one after the other, from where a state stands
-abbrev pub arriveAll : List Leaf → State → State
+abbrev pub arriveAll : List Leaf → ReadState → ReadState
 arriveAll [] st = st
 arriveAll (x ∷ ls) st = arriveAll ls (arrive (ok x (st .cursor .at + length (leafBytes x))) st)
 
 -- The state r follows on st by an outcome: the leaves were read, and it stands behind them; or it is refused so
-pub data Follows (st r : State) : Outcome ℕ (List Leaf) → Type 0 where
+pub data Follows (st r : ReadState) : Outcome ℕ (List Leaf) → Type 0 where
   moved : {ls : List Leaf} {next : ℕ} → (r ≡ arriveAll ls st) × (r .cursor .at ≡ next) → Follows st r (ok ls next)
   stops : {n p : ℕ} → (r .cursor .refusal ≡ n) × (n ≡ 0 → ⊥) × (r .cursor .place ≡ p) × (length (r .table) ≡ length (st .table)) → Follows st r (refuse n p)
 
 -- `run` follows `read`: `run-read` in Reading.antt
 abbrev pub Run-read : Type 0
 Run-read =
-    (s : List ℕ) → length s ≤ limit → (L : Layout) (st : State) → st .cursor .refusal ≡ 0
+    (s : List ℕ) → length s ≤ limit → (L : Layout) (st : ReadState) → st .cursor .refusal ≡ 0
     → Follows st (run L s st) (read L s (st .cursor .at))
 
 -- A refused cursor stays as it is: `run-refused` in Still.antt
 abbrev pub Run-refused : Type 0
-Run-refused = (L : Layout) (s : List ℕ) (st : State) → (st .cursor .refusal ≡ 0 → ⊥) → run L s st ≡ st
+Run-refused = (L : Layout) (s : List ℕ) (st : ReadState) → (st .cursor .refusal ≡ 0 → ⊥) → run L s st ≡ st
 
 -- A reading from the start, finished, is the reading of one value alone: `run-alone` in Finish.antt
 abbrev pub Run-alone : Type 0
 Run-alone =
     (L : Layout) (entities : ℕ) (s table : List ℕ)
-    → finished entities s (run L s (state start table)) ≡ readingAlone L entities s table
+    → finished entities s (run L s (readState newCursor table)) ≡ readingAlone L entities s table

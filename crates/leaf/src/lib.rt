@@ -7,10 +7,10 @@ ghost use Rattle.layout.specs.Layout.{Kind, Tag, Flag, Number, Count, one, text
 ghost use Rattle.layout.specs.Entities.{OptionStr, OptionU32};
 ghost use Rattle.layout.specs.Reading.{byteAt, fourAt, numberAt};
 ghost use Rattle.layout.specs.Answers.{refusal};
-ghost use Rattle.leaf.specs.State.{state, start, seek, lengthAt, stopped, refusedOnce, put, guarded};
+ghost use Rattle.leaf.specs.State.{readState, newCursor, seek, lengthAt, stopped, refusedOnce, put, guarded};
 ghost use Rattle.leaf.specs.Run.{run};
 ghost use Rattle.leaf.specs.Finish.{resultOf, finished};
-ghost use Rattle.leaf.specs.Private.{land, cleared};
+ghost use Rattle.leaf.specs.Private.{putNumber, cleared};
 
 // The most bytes that are read.
 pub const LIMIT: usize = 16777216;
@@ -51,7 +51,7 @@ pub struct Cursor {
 impl Cursor {
     // A cursor at the first byte.
     pub fn new() -> Cursor
-        ensures { λ r. ⌜ r ≡ start ⌝ }
+        ensures { λ r. ⌜ r ≡ newCursor ⌝ }
     {
         Cursor {
             at: 0,
@@ -117,7 +117,7 @@ impl Cursor {
 
     // Behind a leaf, whose row is stored if the table has room for it.
     fn store(self, t: &mut [u32], sort: u32, offset: u32, value: u32, next: usize) -> Cursor
-        ensures { λ r. ⌜ state r (now (t .exit)) ≡ put (sort ∷ offset ∷ value ∷ []) value next (state self (now (t .entry))) ⌝ }
+        ensures { λ r. ⌜ readState r (now (t .exit)) ≡ put (sort ∷ offset ∷ value ∷ []) value next (readState self (now (t .entry))) ⌝ }
     {
         let rows = self.rows;
         if rows < t.len() / ROW_WIDTH {
@@ -148,7 +148,7 @@ impl Cursor {
 
     // A byte, as a leaf of a sort.
     fn byte(self, s: &[u8], t: &mut [u32], sort: u32) -> Cursor
-        ensures { λ r. ⌜ state r (now (t .exit)) ≡ guarded (now (s .entry)) (land sort (byteAt (now (s .entry)) (self .at)) (state self (now (t .entry)))) (state self (now (t .entry))) ⌝ }
+        ensures { λ r. ⌜ readState r (now (t .exit)) ≡ guarded (now (s .entry)) (putNumber sort (byteAt (now (s .entry)) (self .at)) (readState self (now (t .entry)))) (readState self (now (t .entry))) ⌝ }
     {
         if self.refusal != 0 {
             return self;
@@ -166,7 +166,7 @@ impl Cursor {
 
     // Four bytes, as a leaf of a sort.
     fn four(self, s: &[u8], t: &mut [u32], sort: u32) -> Cursor
-        ensures { λ r. ⌜ state r (now (t .exit)) ≡ guarded (now (s .entry)) (land sort (fourAt (now (s .entry)) (self .at)) (state self (now (t .entry)))) (state self (now (t .entry))) ⌝ }
+        ensures { λ r. ⌜ readState r (now (t .exit)) ≡ guarded (now (s .entry)) (putNumber sort (fourAt (now (s .entry)) (self .at)) (readState self (now (t .entry)))) (readState self (now (t .entry))) ⌝ }
     {
         if self.refusal != 0 {
             return self;
@@ -186,21 +186,21 @@ impl Cursor {
 
     // The kind of an entity.
     pub fn read_kind(self, s: &[u8], t: &mut [u32]) -> Cursor
-        ensures { λ r. ⌜ state r (now (t .exit)) ≡ run (one Kind) (now (s .entry)) (state self (now (t .entry))) ⌝ }
+        ensures { λ r. ⌜ readState r (now (t .exit)) ≡ run (one Kind) (now (s .entry)) (readState self (now (t .entry))) ⌝ }
     {
         self.byte(s, t, SORT_KIND)
     }
 
     // Another tag.
     pub fn read_u8(self, s: &[u8], t: &mut [u32]) -> Cursor
-        ensures { λ r. ⌜ state r (now (t .exit)) ≡ run (one Tag) (now (s .entry)) (state self (now (t .entry))) ⌝ }
+        ensures { λ r. ⌜ readState r (now (t .exit)) ≡ run (one Tag) (now (s .entry)) (readState self (now (t .entry))) ⌝ }
     {
         self.byte(s, t, SORT_TAG)
     }
 
     // A flag.
     pub fn read_bool(self, s: &[u8], t: &mut [u32]) -> Cursor
-        ensures { λ r. ⌜ state r (now (t .exit)) ≡ run (one Flag) (now (s .entry)) (state self (now (t .entry))) ⌝ }
+        ensures { λ r. ⌜ readState r (now (t .exit)) ≡ run (one Flag) (now (s .entry)) (readState self (now (t .entry))) ⌝ }
     {
         if self.refusal != 0 {
             return self;
@@ -221,21 +221,21 @@ impl Cursor {
 
     // A number.
     pub fn read_u32(self, s: &[u8], t: &mut [u32]) -> Cursor
-        ensures { λ r. ⌜ state r (now (t .exit)) ≡ run (one Number) (now (s .entry)) (state self (now (t .entry))) ⌝ }
+        ensures { λ r. ⌜ readState r (now (t .exit)) ≡ run (one Number) (now (s .entry)) (readState self (now (t .entry))) ⌝ }
     {
         self.four(s, t, SORT_NUMBER)
     }
 
     // The count of a list.
     pub fn read_count(self, s: &[u8], t: &mut [u32]) -> Cursor
-        ensures { λ r. ⌜ state r (now (t .exit)) ≡ run (one Count) (now (s .entry)) (state self (now (t .entry))) ⌝ }
+        ensures { λ r. ⌜ readState r (now (t .exit)) ≡ run (one Count) (now (s .entry)) (readState self (now (t .entry))) ⌝ }
     {
         self.four(s, t, SORT_COUNT)
     }
 
     // A text: its length, then as many bytes.
     pub fn read_str(self, s: &[u8], t: &mut [u32]) -> Cursor
-        ensures { λ r. ⌜ state r (now (t .exit)) ≡ run text (now (s .entry)) (state self (now (t .entry))) ⌝ }
+        ensures { λ r. ⌜ readState r (now (t .exit)) ≡ run text (now (s .entry)) (readState self (now (t .entry))) ⌝ }
     {
         if self.refusal != 0 {
             return self;
@@ -265,7 +265,7 @@ impl Cursor {
 
     // A text that may be missing: a flag, then the text if 1.
     pub fn read_option_str(self, s: &[u8], t: &mut [u32]) -> Cursor
-        ensures { λ r. ⌜ state r (now (t .exit)) ≡ run OptionStr (now (s .entry)) (state self (now (t .entry))) ⌝ }
+        ensures { λ r. ⌜ readState r (now (t .exit)) ≡ run OptionStr (now (s .entry)) (readState self (now (t .entry))) ⌝ }
     {
         let c = self.read_bool(s, t);
         if c.value != 0 {
@@ -276,7 +276,7 @@ impl Cursor {
 
     // A number that may be missing.
     pub fn read_option_u32(self, s: &[u8], t: &mut [u32]) -> Cursor
-        ensures { λ r. ⌜ state r (now (t .exit)) ≡ run OptionU32 (now (s .entry)) (state self (now (t .entry))) ⌝ }
+        ensures { λ r. ⌜ readState r (now (t .exit)) ≡ run OptionU32 (now (s .entry)) (readState self (now (t .entry))) ⌝ }
     {
         let c = self.read_bool(s, t);
         if c.value != 0 {
@@ -287,7 +287,7 @@ impl Cursor {
 
     // The answer at the end of what is read alone. On acceptance the table has the rows, then only 0; after a refusal it is all 0.
     pub fn finish(self, s: &[u8], t: &mut [u32], entities: usize) -> Answer
-        ensures { λ r. ⌜ resultOf r (now (t .exit)) ≡ finished entities (now (s .entry)) (state self (now (t .entry))) ⌝ }
+        ensures { λ r. ⌜ resultOf r (now (t .exit)) ≡ finished entities (now (s .entry)) (readState self (now (t .entry))) ⌝ }
     {
         if LIMIT < s.len() {
             return refuse(t, 1, 0);

@@ -9,10 +9,10 @@ use Rattle.layout.specs.Forms.{times, onlyIf}
 use Rattle.layout.specs.Written.{bytes}
 use Rattle.layout.proofs.InBytes.{bytesOf-append}
 use Rattle.length.specs.Length.{sum, optionLength, listLength}
-use Rattle.length.specs.Theorems.{inner, items, Option-length, List-length}
+use Rattle.length.specs.Theorems.{inner, itemLengths, Option-length, List-length}
 
 -- The items' bytes, together
-items-sum : (L : Layout) (n : ℕ) (v : Value (times n L)) → sum (items L n v) ≡ length (bytes (times n L) v)
+items-sum : (L : Layout) (n : ℕ) (v : Value (times n L)) → sum (itemLengths L n v) ≡ length (bytes (times n L) v)
 items-sum L zero v = refl
 items-sum L (suc n) v = rw (bytesOf-append (leaves L (v .0)) (leaves (times n L) (v .1))) (omega (arith, items-sum L n (v .1), length-append (bytes L (v .0)) (bytes (times n L) (v .1))))
 

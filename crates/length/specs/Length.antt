@@ -4,8 +4,8 @@ use mathlib.Core.Bool.{cond}
 use mathlib.Core.List.{List, [], _∷_}
 use mathlib.Core.Option.{Option, none, some}
 use lib.Dec.{leb}
-use Rattle.layout.specs.Alone.{limit}
-use Rattle.length.specs.declared.Length.the-variants.{Bytes, Refused}
+use Rattle.layout.specs.Answers.{limit}
+use Rattle.length.specs.declared.Length.the-variants.{Counted, Refused}
 use Rattle.length.specs.declared.OptionLen.{OptionLen}
 use Rattle.length.specs.declared.OptionLen.the-variants.{Some, None}
 use Rattle.length.specs.declared.Length as declared
@@ -17,7 +17,7 @@ pub data Length : Type 0 where
 
 -- The count, or the number and place, of each case
 abbrev pub lengthOf : declared.Length → Length
-lengthOf (Bytes count) = counted count
+lengthOf (Counted count) = counted count
 lengthOf (Refused number place) = refused number place
 
 -- 16: the written length is above the limit
@@ -25,17 +25,17 @@ abbrev pub tooLong : Length
 tooLong = refused 16 0
 
 -- What is told of a written length
-unfoldable pub told : ℕ → Length
-told n = cond (leb n limit) (counted n) tooLong
+unfoldable pub withinLimit : ℕ → Length
+withinLimit n = cond (leb n limit) (counted n) tooLong
 
 -- A 4-byte length, then as many bytes
 abbrev pub bytesLength : ℕ → ℕ
 bytesLength n = 4 + n
 
 -- The length that a value of the code stands for, if any
-abbrev pub optionOf : OptionLen → Option ℕ
-optionOf None = none
-optionOf (Some n) = some n
+abbrev pub lenOf : OptionLen → Option ℕ
+lenOf None = none
+lenOf (Some n) = some n
 
 -- A flag, then the thing if it is there
 abbrev pub optionLength : Option ℕ → ℕ
@@ -49,4 +49,4 @@ sum (n ∷ ns) = n + sum ns
 
 -- A 4-byte count, then the items, by their lengths
 unfoldable pub listLength : List ℕ → ℕ
-listLength items = 4 + sum items
+listLength itemLengths = 4 + sum itemLengths

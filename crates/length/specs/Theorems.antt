@@ -15,9 +15,9 @@ inner L zero v = none
 inner L (suc n) v = some (length (bytes L v))
 
 -- The lengths of n items
-abbrev pub items : (L : Layout) (n : ℕ) → Value (times n L) → List ℕ
-items L zero v = []
-items L (suc n) v = length (bytes L (v .0)) ∷ items L n (v .1)
+abbrev pub itemLengths : (L : Layout) (n : ℕ) → Value (times n L) → List ℕ
+itemLengths L zero v = []
+itemLengths L (suc n) v = length (bytes L (v .0)) ∷ itemLengths L n (v .1)
 
 -- A "may" takes as many bytes as `optionLength` says: `option-length` in Written.antt
 abbrev pub Option-length : Type 0
@@ -25,4 +25,4 @@ Option-length = (L : Layout) (v : Value (may L)) → optionLength (inner L (v .0
 
 -- A list takes as many bytes as `listLength` says: `list-length` in Written.antt
 abbrev pub List-length : Type 0
-List-length = (L : Layout) (v : Value (list L)) → listLength (items L (v .0) (v .2)) ≡ length (bytes (list L) v)
+List-length = (L : Layout) (v : Value (list L)) → listLength (itemLengths L (v .0) (v .2)) ≡ length (bytes (list L) v)

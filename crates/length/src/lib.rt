@@ -4,15 +4,15 @@ ghost use Prim.Native.Nat.{_+_, _≤_};
 ghost use lib.ListN.{length};
 ghost use Rattle.layout.specs.Layout.{Tag, Flag, Number, string};
 ghost use Rattle.layout.specs.Written.{plainBytes, leafBytes};
-ghost use Rattle.layout.specs.Alone.{limit};
-ghost use Rattle.length.specs.Length.{lengthOf, tooLong, told, bytesLength, optionOf, optionLength, listLength};
+ghost use Rattle.layout.specs.Answers.{limit};
+ghost use Rattle.length.specs.Length.{lengthOf, tooLong, withinLimit, bytesLength, lenOf, optionLength, listLength};
 
 // The refusal of a length above the limit.
 const TOO_LONG: u32 = 16;
 
 // A length in bytes, or a refusal's number and place.
 pub enum Length {
-    Bytes { count: usize },
+    Counted { count: usize },
     Refused { number: u32, place: usize },
 }
 
@@ -24,14 +24,14 @@ pub enum OptionLen {
 
 // The length of some bytes with their length before them.
 pub fn bytes_len(len: usize) -> Length
-    ensures { λ r. ⌜ lengthOf r ≡ told (bytesLength len) ⌝ }
+    ensures { λ r. ⌜ lengthOf r ≡ withinLimit (bytesLength len) ⌝ }
 {
     sum_len(4, len)
 }
 
 // The length of a text.
 pub fn str_len(value: &[u8]) -> Length
-    ensures { λ r. ⌜ lengthOf r ≡ told (length (leafBytes (string (now (value .entry))))) ⌝ }
+    ensures { λ r. ⌜ lengthOf r ≡ withinLimit (length (leafBytes (string (now (value .entry))))) ⌝ }
 {
     bytes_len(value.len())
 }
@@ -59,17 +59,17 @@ pub fn u32_len() -> usize
 
 // The length of a thing that may be missing.
 pub fn opt_len(inner: OptionLen) -> Length
-    ensures { λ r. ⌜ lengthOf r ≡ told (optionLength (optionOf inner)) ⌝ }
+    ensures { λ r. ⌜ lengthOf r ≡ withinLimit (optionLength (lenOf inner)) ⌝ }
 {
     match inner {
-        OptionLen::None => Length::Bytes { count: 1 },
+        OptionLen::None => Length::Counted { count: 1 },
         OptionLen::Some(len) => sum_len(1, len),
     }
 }
 
 // The length of a list, from the lengths of its items.
 pub fn list_len(items: &[usize]) -> Length
-    ensures { λ r. ⌜ lengthOf r ≡ told (listLength (now (items .entry))) ⌝ }
+    ensures { λ r. ⌜ lengthOf r ≡ withinLimit (listLength (now (items .entry))) ⌝ }
 {
     let mut total = 4;
     let mut i = 0;
@@ -81,18 +81,18 @@ pub fn list_len(items: &[usize]) -> Length
         total += item;
         i += 1;
     }
-    Length::Bytes { count: total }
+    Length::Counted { count: total }
 }
 
 // The sum of two lengths.
 fn sum_len(head: usize, len: usize) -> Length
     requires { ⌜ head ≤ limit ⌝ }
-    ensures { λ r. ⌜ lengthOf r ≡ told (head + len) ⌝ }
+    ensures { λ r. ⌜ lengthOf r ≡ withinLimit (head + len) ⌝ }
 {
     if leaf::LIMIT - head < len {
         return too_long();
     }
-    Length::Bytes { count: head + len }
+    Length::Counted { count: head + len }
 }
 
 fn too_long() -> Length

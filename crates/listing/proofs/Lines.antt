@@ -1,18 +1,20 @@
 -- Lines: how long they are, and how they are put word after word and row after row.
-use Prim.Native.Nat.{ℕ, suc, _+_, _-_, _^_, _≤_, _<_, min}
+use Prim.Native.Nat.{ℕ, suc, _+_, _-_, _^_, _/_, _≤_, _<_}
 use native.Mathlib.Numerals.{add-one}
 use native.Mathlib.Omega.{arith}
 use mathlib.Core.List.{List, [], _∷_, map}
-use mathlib.Core.Path.{_≡_, sym, ap, _∙_}
+use mathlib.Core.Path.{_≡_, refl, sym, ap, _∙_}
 use lib.ListN.{length, take, drop, getD, length-append, drop-of-length-le}
 use lib.Seq.{drop-cons, drop-drop}
 use borrow.Author.Tests.{le-leb, lt-leb}
 use Rattle.decimal.specs.Ascii.{ascii}
 use Rattle.layout.specs.Written.{rowWidth}
-use Rattle.layout.specs.Answers.{accepted, refused, wholeRows}
-use Rattle.leaf.specs.declared.Answer.{Answer}
+use Rattle.layout.specs.Answers.{accepted, refused, Result, wholeRows}
+use Rattle.leaf.specs.declared.Answer.the-variants.{Accepted, Refused}
+use Rattle.leaf.specs.declared.Answer as declared
 use Rattle.leaf.specs.Finish.{answerOf, resultOf}
 use Rattle.section.specs.Section.{reading}
+use Rattle.section.specs.Demand3.{Demand3}
 use Rattle.decimal.specs.Decimal.{decimal}
 use Rattle.decimal.proofs.Numeral.{most-64}
 use Rattle.listing.specs.Listing.{mostBytes, lentTable, further, line, rowLines, lines, listing, atStart}
@@ -78,11 +80,21 @@ counts-most w a b l h k =
     )
 
 -- The lines of an acceptance
-pub accept-put : (entities rows n : ℕ) (table : List ℕ) (p q t : Place) → q ≡ putAll (line (ascii "accept" ∷ decimal entities ∷ decimal rows ∷ [])) p
-    → n ≡ min rows (wholeRows table) → t ≡ putAll (rowLines n table) q → t ≡ putAll (lines (accepted entities rows) table) p
+pub accept-put : (entities rows : ℕ) (table : List ℕ) (p q t : Place) → q ≡ putAll (line (ascii "accept" ∷ decimal entities ∷ decimal rows ∷ [])) p
+    → t ≡ putAll (rowLines rows table) q → t ≡ putAll (lines (accepted entities rows) table) p
 unfolding lines
-accept-put entities rows n table p q t e w f =
-    f ∙ rw (e, w) (sym (put-append (line (ascii "accept" ∷ decimal entities ∷ decimal rows ∷ [])) (rowLines (min rows (wholeRows table)) table) p))
+accept-put entities rows table p q t e f =
+    f ∙ rw e (sym (put-append (line (ascii "accept" ∷ decimal entities ∷ decimal rows ∷ [])) (rowLines rows table) p))
+
+-- An accepted answer's rows are in the table
+pub counted : (answer : declared.Answer) (entities rows n : ℕ) → answer ≡ Accepted entities rows → answerOf answer .rows ≤ n → rows ≤ n
+counted answer entities rows n e h = omega (arith, ap (λ (a : declared.Answer). answerOf a .rows) e)
+
+pub rows-there : (s table : List ℕ) (answer : declared.Answer) (after : List ℕ) → length after ≡ length table → Demand3 s table (resultOf answer after) → answerOf answer .rows ≤ wholeRows after
+rows-there s table (Accepted entities rows) after l d =
+    let (x, g, h) = d .exact .accepts .0 refl in
+    omega (arith, ap (λ (r : Result). r .answer .rows) (d .exact .fits x g h), ap (λ (n : ℕ). n / rowWidth) l)
+rows-there s table (Refused number place) after l d = omega arith
 
 -- The line of a refusal
 pub refuse-put : (number at n : ℕ) (table : List ℕ) (p t : Place) → n ≡ number → t ≡ putAll (line (ascii "refuse" ∷ decimal n ∷ decimal at ∷ [])) p
@@ -100,7 +112,7 @@ pub long-listing : (s : List ℕ) → mostBytes < length s → listing s ≡ lin
 unfolding listing
 long-listing s h = rw (lt-leb (length s) mostBytes h)
 
-pub read-listing : (s : List ℕ) (answer : Answer) (table : List ℕ) → length s ≤ mostBytes
+pub read-listing : (s : List ℕ) (answer : declared.Answer) (table : List ℕ) → length s ≤ mostBytes
     → resultOf answer table ≡ reading s lentTable → listing s ≡ lines (answerOf answer) table
 unfolding listing
 read-listing s answer table h e = rw (le-leb (length s) mostBytes h, ← e)

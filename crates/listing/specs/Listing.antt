@@ -1,11 +1,11 @@
 -- The listing of a section, as bytes: document 01, "The listing program and its cases".
-use Prim.Native.Nat.{ℕ, zero, suc, _+_, _*_, min}
+use Prim.Native.Nat.{ℕ, zero, suc, _+_, _*_}
 use mathlib.Core.Bool.{cond}
 use mathlib.Core.List.{List, [], _∷_, _++_, map}
 use lib.Dec.{leb}
 use lib.ListN.{length, take, drop, replicate}
 use Rattle.layout.specs.Written.{rowWidth}
-use Rattle.layout.specs.Answers.{Answer, accepted, refused, Result, wholeRows}
+use Rattle.layout.specs.Answers.{Answer, Result}
 use Rattle.section.specs.Section.{reading}
 use Rattle.decimal.specs.Ascii.{ascii}
 use Rattle.decimal.specs.Decimal.{decimal}
@@ -39,9 +39,10 @@ rowLines (suc k) table = line (map decimal (take rowWidth table)) ++ rowLines k 
 
 -- The lines of an answer with its table
 unfoldable pub lines : Answer → List ℕ → List ℕ
-lines (accepted entities rows) table =
-    line (ascii "accept" ∷ decimal entities ∷ decimal rows ∷ []) ++ rowLines (min rows (wholeRows table)) table
-lines (refused number place) table = line (ascii "refuse" ∷ decimal number ∷ decimal place ∷ [])
+lines a table =
+    cond (a .accepts)
+    (line (ascii "accept" ∷ decimal (a .entities) ∷ decimal (a .rows) ∷ []) ++ rowLines (a .rows) table)
+    (line (ascii "refuse" ∷ decimal (a .number) ∷ decimal (a .place) ∷ []))
 
 -- The lines of a result
 abbrev pub resultLines : Result → List ℕ

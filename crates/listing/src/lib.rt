@@ -2,7 +2,7 @@
 use leaf::Answer;
 ghost use mathlib.Core.List.{[], _∷_, map};
 ghost use mathlib.Core.Path.{_≡_};
-ghost use Prim.Native.Nat.{_+_, _*_, _^_, _≤_, _<_, min};
+ghost use Prim.Native.Nat.{_+_, _*_, _^_, _≤_, _<_};
 ghost use lib.ListN.{length};
 ghost use Rattle.layout.specs.Written.{rowWidth};
 ghost use Rattle.layout.specs.Answers.{wholeRows};
@@ -45,15 +45,16 @@ fn lent_table() -> [u32; LENT_NUMBERS]
 }
 
 // This and each other function named put puts bytes into out as far as there is room, from the start or from the place at on,
-// and answers the place behind them, which may lie behind out's end. Here: the lines of an answer with its table.
+// and answers the place behind them, which may lie behind out's end. Here: the lines of an answer with its table, which has the
+// rows that are counted.
 fn put_answer(out: &mut [u8], answer: Answer, table: &[u32]) -> usize
-    requires { ⌜ length (now table) ≤ rowWidth * lentRows ⌝ }
+    requires { ⌜ (length (now table) ≤ rowWidth * lentRows) × (answerOf answer .rows ≤ wholeRows (now table)) ⌝ }
     ensures { λ r. ⌜ (place (now (out .exit)) r ≡ putAll (lines (answerOf answer) (now (table .entry))) (place (now (out .entry)) 0)) × (r ≤ mostListed) ⌝ }
 {
     match answer {
         Answer::Accepted { entities, rows } => {
             let at = put_counts(out, b"accept", entities as u64, rows as u64);
-            put_rows(out, at, table, listed_rows(rows, table))
+            put_rows(out, at, table, rows)
         }
         Answer::Refused { number, place } => put_counts(out, b"refuse", wide(number), place as u64),
     }
@@ -68,14 +69,6 @@ fn put_counts(out: &mut [u8], word: &[u8], a: u64, b: u64) -> usize
     let at = put_word(out, at, a);
     let at = put_word(out, at, b);
     put_byte(out, at, b'\n')
-}
-
-// How many of so many rows the table has.
-fn listed_rows(rows: usize, table: &[u32]) -> usize
-    ensures { λ r. ⌜ r ≡ min rows (wholeRows (now (table .entry))) ⌝ }
-{
-    let whole = table.len() / leaf::ROW_WIDTH;
-    if rows < whole { rows } else { whole }
 }
 
 // A line for each of the first rows of the table.

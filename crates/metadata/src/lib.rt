@@ -5,15 +5,16 @@ ghost use mathlib.Core.Logic.{_≢_};
 ghost use mathlib.Core.Path.{_≡_};
 ghost use Rattle.layout.specs.Entities.{SqlMapping, SqlArrayMapping, Numeric, Returns, SqlMappingList, ArgumentSql, ReturnSql};
 ghost use Rattle.layout.specs.Entities.{ArgumentError, ReturnsError, FunctionMetadataType, OptionResolution, Resolution, TypeOrigin};
-ghost use Rattle.layout.specs.Alone.{readingAlone, ExactAlone};
-ghost use Rattle.leaf.specs.State.{state};
+ghost use Rattle.layout.specs.Alone.{ExactAlone};
+ghost use Rattle.layout.specs.ReadAlone.{readingAlone};
+ghost use Rattle.leaf.specs.State.{readState};
 ghost use Rattle.leaf.specs.Run.{run};
 ghost use Rattle.leaf.specs.Finish.{resultOf};
 ghost use Rattle.metadata.specs.Private.{BehindTag};
 
 // As, which most mappings are, is told apart first.
 pub fn read_sql_mapping(c: Cursor, s: &[u8], t: &mut [u32]) -> Cursor
-    ensures { λ r. ⌜ state r (now (t .exit)) ≡ run SqlMapping (now (s .entry)) (state c (now (t .entry))) ⌝ }
+    ensures { λ r. ⌜ readState r (now (t .exit)) ≡ run SqlMapping (now (s .entry)) (readState c (now (t .entry))) ⌝ }
 {
     let at = c.at;
     let c = c.read_u8(s, t);
@@ -26,7 +27,7 @@ pub fn read_sql_mapping(c: Cursor, s: &[u8], t: &mut [u32]) -> Cursor
 // The mappings other than As, behind their tag, which stands at `at`.
 fn read_other_sql_mapping(c: Cursor, s: &[u8], t: &mut [u32], at: usize) -> Cursor
     requires { ⌜ c .value ≢ 1 ⌝ }
-    ensures { λ r. ⌜ BehindTag SqlMapping (now (s .entry)) at (state c (now (t .entry))) (state r (now (t .exit))) ⌝ }
+    ensures { λ r. ⌜ BehindTag SqlMapping (now (s .entry)) at (readState c (now (t .entry))) (readState r (now (t .exit))) ⌝ }
 {
     let tag = c.value;
     match tag {
@@ -39,7 +40,7 @@ fn read_other_sql_mapping(c: Cursor, s: &[u8], t: &mut [u32], at: usize) -> Curs
 }
 
 pub fn read_sql_array_mapping(c: Cursor, s: &[u8], t: &mut [u32]) -> Cursor
-    ensures { λ r. ⌜ state r (now (t .exit)) ≡ run SqlArrayMapping (now (s .entry)) (state c (now (t .entry))) ⌝ }
+    ensures { λ r. ⌜ readState r (now (t .exit)) ≡ run SqlArrayMapping (now (s .entry)) (readState c (now (t .entry))) ⌝ }
 {
     let at = c.at;
     let c = c.read_u8(s, t);
@@ -54,7 +55,7 @@ pub fn read_sql_array_mapping(c: Cursor, s: &[u8], t: &mut [u32]) -> Cursor
 
 // A Numeric mapping: each number is read also where its flag is 0.
 pub fn read_numeric(c: Cursor, s: &[u8], t: &mut [u32]) -> Cursor
-    ensures { λ r. ⌜ state r (now (t .exit)) ≡ run Numeric (now (s .entry)) (state c (now (t .entry))) ⌝ }
+    ensures { λ r. ⌜ readState r (now (t .exit)) ≡ run Numeric (now (s .entry)) (readState c (now (t .entry))) ⌝ }
 {
     let c = c.read_bool(s, t); // has_precision
     let c = c.read_u32(s, t); // precision
@@ -63,7 +64,7 @@ pub fn read_numeric(c: Cursor, s: &[u8], t: &mut [u32]) -> Cursor
 }
 
 pub fn read_returns(c: Cursor, s: &[u8], t: &mut [u32]) -> Cursor
-    ensures { λ r. ⌜ state r (now (t .exit)) ≡ run Returns (now (s .entry)) (state c (now (t .entry))) ⌝ }
+    ensures { λ r. ⌜ readState r (now (t .exit)) ≡ run Returns (now (s .entry)) (readState c (now (t .entry))) ⌝ }
 {
     let at = c.at;
     let c = c.read_u8(s, t);
@@ -76,7 +77,7 @@ pub fn read_returns(c: Cursor, s: &[u8], t: &mut [u32]) -> Cursor
 }
 
 pub fn read_sql_mapping_list(c: Cursor, s: &[u8], t: &mut [u32]) -> Cursor
-    ensures { λ r. ⌜ state r (now (t .exit)) ≡ run SqlMappingList (now (s .entry)) (state c (now (t .entry))) ⌝ }
+    ensures { λ r. ⌜ readState r (now (t .exit)) ≡ run SqlMappingList (now (s .entry)) (readState c (now (t .entry))) ⌝ }
 {
     let mut c = c.read_count(s, t);
     let count = c.value;
@@ -92,7 +93,7 @@ pub fn read_sql_mapping_list(c: Cursor, s: &[u8], t: &mut [u32]) -> Cursor
 }
 
 pub fn read_argument_sql(c: Cursor, s: &[u8], t: &mut [u32]) -> Cursor
-    ensures { λ r. ⌜ state r (now (t .exit)) ≡ run ArgumentSql (now (s .entry)) (state c (now (t .entry))) ⌝ }
+    ensures { λ r. ⌜ readState r (now (t .exit)) ≡ run ArgumentSql (now (s .entry)) (readState c (now (t .entry))) ⌝ }
 {
     let at = c.at;
     let c = c.read_u8(s, t);
@@ -105,7 +106,7 @@ pub fn read_argument_sql(c: Cursor, s: &[u8], t: &mut [u32]) -> Cursor
 }
 
 pub fn read_return_sql(c: Cursor, s: &[u8], t: &mut [u32]) -> Cursor
-    ensures { λ r. ⌜ state r (now (t .exit)) ≡ run ReturnSql (now (s .entry)) (state c (now (t .entry))) ⌝ }
+    ensures { λ r. ⌜ readState r (now (t .exit)) ≡ run ReturnSql (now (s .entry)) (readState c (now (t .entry))) ⌝ }
 {
     let at = c.at;
     let c = c.read_u8(s, t);
@@ -118,7 +119,7 @@ pub fn read_return_sql(c: Cursor, s: &[u8], t: &mut [u32]) -> Cursor
 }
 
 pub fn read_argument_error(c: Cursor, s: &[u8], t: &mut [u32]) -> Cursor
-    ensures { λ r. ⌜ state r (now (t .exit)) ≡ run ArgumentError (now (s .entry)) (state c (now (t .entry))) ⌝ }
+    ensures { λ r. ⌜ readState r (now (t .exit)) ≡ run ArgumentError (now (s .entry)) (readState c (now (t .entry))) ⌝ }
 {
     let at = c.at;
     let c = c.read_u8(s, t);
@@ -131,7 +132,7 @@ pub fn read_argument_error(c: Cursor, s: &[u8], t: &mut [u32]) -> Cursor
 }
 
 pub fn read_returns_error(c: Cursor, s: &[u8], t: &mut [u32]) -> Cursor
-    ensures { λ r. ⌜ state r (now (t .exit)) ≡ run ReturnsError (now (s .entry)) (state c (now (t .entry))) ⌝ }
+    ensures { λ r. ⌜ readState r (now (t .exit)) ≡ run ReturnsError (now (s .entry)) (readState c (now (t .entry))) ⌝ }
 {
     let at = c.at;
     let c = c.read_u8(s, t);
@@ -144,7 +145,7 @@ pub fn read_returns_error(c: Cursor, s: &[u8], t: &mut [u32]) -> Cursor
 
 // The metadata record.
 pub fn read_function_metadata_type(c: Cursor, s: &[u8], t: &mut [u32]) -> Cursor
-    ensures { λ r. ⌜ state r (now (t .exit)) ≡ run FunctionMetadataType (now (s .entry)) (state c (now (t .entry))) ⌝ }
+    ensures { λ r. ⌜ readState r (now (t .exit)) ≡ run FunctionMetadataType (now (s .entry)) (readState c (now (t .entry))) ⌝ }
 {
     let c = read_option_resolution(c, s, t); // resolution
     let c = read_argument_sql(c.anew(), s, t); // argument_sql
@@ -152,7 +153,7 @@ pub fn read_function_metadata_type(c: Cursor, s: &[u8], t: &mut [u32]) -> Cursor
 }
 
 pub fn read_option_resolution(c: Cursor, s: &[u8], t: &mut [u32]) -> Cursor
-    ensures { λ r. ⌜ state r (now (t .exit)) ≡ run OptionResolution (now (s .entry)) (state c (now (t .entry))) ⌝ }
+    ensures { λ r. ⌜ readState r (now (t .exit)) ≡ run OptionResolution (now (s .entry)) (readState c (now (t .entry))) ⌝ }
 {
     let c = c.read_bool(s, t);
     if c.value != 0 {
@@ -162,14 +163,14 @@ pub fn read_option_resolution(c: Cursor, s: &[u8], t: &mut [u32]) -> Cursor
 }
 
 pub fn read_resolution(c: Cursor, s: &[u8], t: &mut [u32]) -> Cursor
-    ensures { λ r. ⌜ state r (now (t .exit)) ≡ run Resolution (now (s .entry)) (state c (now (t .entry))) ⌝ }
+    ensures { λ r. ⌜ readState r (now (t .exit)) ≡ run Resolution (now (s .entry)) (readState c (now (t .entry))) ⌝ }
 {
     let c = c.read_str(s, t); // type_ident
     read_type_origin(c, s, t) // type_origin
 }
 
 pub fn read_type_origin(c: Cursor, s: &[u8], t: &mut [u32]) -> Cursor
-    ensures { λ r. ⌜ state r (now (t .exit)) ≡ run TypeOrigin (now (s .entry)) (state c (now (t .entry))) ⌝ }
+    ensures { λ r. ⌜ readState r (now (t .exit)) ≡ run TypeOrigin (now (s .entry)) (readState c (now (t .entry))) ⌝ }
 {
     let at = c.at;
     let c = c.read_u8(s, t);

@@ -7,7 +7,7 @@ use mathlib.Core.Path.{_≡_, refl, subst}
 use lib.Dec.{ltb}
 use lib.ListN.{length, getD, take, drop}
 use borrow.Author.Tests.{leb-true}
-use Rattle.layout.specs.Layout.{Sort, Kind, Tag, Flag, Number, Count, Verdict, fine, wrong, Layout, nothing, one, text, _then_, case, check, leaves}
+use Rattle.layout.specs.Layout.{Sort, Kind, Tag, Flag, Number, Count, Verdict, fine, wrong, Layout, nothing, one, text, _then_, case, check, leaves, valuesOf}
 use Rattle.layout.specs.Reading.{Outcome, ok, refuse, _>>=_, need, judged, utf8, enough, walk, plainAt, fourAt, bodyAt, textAt, inBytes, readValue, read}
 
 -- An outcome ends, or is refused, at a place up to m
@@ -56,7 +56,7 @@ module _ (s : List ℕ) (m : ℕ) (small : length s ≤ m) where
       bind m (plainAt s srt at) _ (plainly srt at h) λ n at₁ h₁.
       bind m (walk (inBytes s) A at₁) _ (walked A at₁ h₁) λ a at₂ h₂.
       verdict m (j n) at _ h (bind m (walk (inBytes s) (B n) at₂) _ (walked (B n) at₂ h₂) λ b at₃ h₃. ends h₃)
-  walked (check A j) at h = bind m (walk (inBytes s) A at) _ (walked A at h) λ a at₁ h₁. verdict m (j (leaves A a)) at _ h (ends h₁)
+  walked (check A j) at h = bind m (walk (inBytes s) A at) _ (walked A at h) λ a at₁ h₁. verdict m (j (valuesOf (leaves A a))) at _ h (ends h₁)
 
   pub refused-within : (L : Layout) (at n p : ℕ) → at ≤ m → read L s at ≡ refuse n p → p ≤ m
   unfolding read readValue

@@ -8,9 +8,10 @@ use lib.Dec.{leb, eqb}
 use lib.ListN.{length, take, drop, length-drop}
 use lib.Seq.{length-take-le}
 use borrow.Author.Tests.{leb-true, le-leb, lt-leb, eq-eqb, ne-eqb}
+use Rattle.layout.specs.Written.{textSort}
 use Rattle.layout.specs.Layout.{string, text}
 use Rattle.layout.specs.Reading.{Outcome, ok, refuse, _>>=_, need, utf8, enough, numberAt, bodyAt, read}
-use Rattle.layout.specs.Alone.{limit}
+use Rattle.layout.specs.Answers.{limit}
 use Rattle.layout.proofs.Equations.{read-text}
 use Rattle.parts.specs.declared.Row.{Row}
 use Rattle.parts.specs.Parts.{isText, rowText, partOf, numberIn, placeIn}
@@ -23,23 +24,23 @@ module _ (s : List ℕ) (row : Row) where
   long h = rw (lt-leb (length s) limit h)
 
   module _ (small : length s ≤ limit) where
-    pub other-sort : (row .sort ≡ 6 → ⊥) → rowText s row ≡ refuse 15 0
+    pub other-sort : (row .sort ≡ textSort → ⊥) → rowText s row ≡ refuse 15 0
     unfolding rowText
-    other-sort h = rw (le-leb (length s) limit small, ne-eqb (row .sort) 6 h)
+    other-sort h = rw (le-leb (length s) limit small, ne-eqb (row .sort) textSort h)
 
-    module _ (z : row .sort ≡ 6) where
+    module _ (z : row .sort ≡ textSort) where
       pub outside : length s < row .offset + row .value → rowText s row ≡ refuse 15 0
       unfolding rowText
-      outside h = rw (le-leb (length s) limit small, eq-eqb (row .sort) 6 z, lt-leb (row .offset + row .value) (length s) h)
+      outside h = rw (le-leb (length s) limit small, eq-eqb (row .sort) textSort z, lt-leb (row .offset + row .value) (length s) h)
 
       module _ (h : row .offset + row .value ≤ length s) (x : ℕ) (q : x ≡ row .value) where
         pub not-utf8 : automaton.utf8 (take x (drop (row .offset) s)) ≡ false → rowText s row ≡ refuse 15 0
         unfolding rowText utf8
-        not-utf8 u = rw (le-leb (length s) limit small, eq-eqb (row .sort) 6 z, le-leb (row .offset + row .value) (length s) h, ← q, u)
+        not-utf8 u = rw (le-leb (length s) limit small, eq-eqb (row .sort) textSort z, le-leb (row .offset + row .value) (length s) h, ← q, u)
 
         pub is-text : automaton.utf8 (take x (drop (row .offset) s)) ≡ true → rowText s row ≡ ok (row .offset) (row .offset + row .value)
         unfolding rowText utf8
-        is-text u = rw (le-leb (length s) limit small, eq-eqb (row .sort) 6 z, le-leb (row .offset + row .value) (length s) h, ← q, u)
+        is-text u = rw (le-leb (length s) limit small, eq-eqb (row .sort) textSort z, le-leb (row .offset + row .value) (length s) h, ← q, u)
 
   -- A row's refusals all have place 0
   pub place-0 : placeIn (rowText s row) ≡ 0
@@ -61,7 +62,7 @@ module _ (s : List ℕ) (row : Row) where
   -- A row that is not refused
   pub accepted : numberIn (rowText s row) ≡ 0 → (row .offset + row .value ≤ length s) × (rowText s row ≡ ok (row .offset) (row .offset + row .value))
   unfolding rowText
-  accepted h = go (leb (length s) limit) (eqb (row .sort) 6) (enough s (row .offset) (row .value)) (utf8 (take (row .value) (drop (row .offset) s))) refl h
+  accepted h = go (leb (length s) limit) (eqb (row .sort) textSort) (enough s (row .offset) (row .value)) (utf8 (take (row .value) (drop (row .offset) s))) refl h
     where
       go : (a b x y : Bool) → enough s (row .offset) (row .value) ≡ x → numberIn (need a 1 0 (need (b && (x && y)) 15 0 (ok (row .offset) (row .offset + row .value)))) ≡ 0
           → (row .offset + row .value ≤ length s) × (need a 1 0 (need (b && (x && y)) 15 0 (ok (row .offset) (row .offset + row .value))) ≡ ok (row .offset) (row .offset + row .value))
@@ -116,7 +117,7 @@ pub row-part : Row-part
 unfolding rowText
 row-part s small at t end e row q =
     let (h, u, k) = read-body s at t end e in
-    let a : row .sort ≡ 6 = cc in
+    let a : row .sort ≡ textSort = cc in
     let b : row .offset ≡ at + 4 = cc in
     let d : row .value ≡ length t = cc in
     let m : at + 4 + length t - (at + 4) ≡ length t = omega arith in

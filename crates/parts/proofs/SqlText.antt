@@ -13,12 +13,12 @@ use Rattle.layout.specs.Written.{four, bytesOf, rowWidth, valueAt}
 use Rattle.layout.specs.Forms.{follows, tags}
 use Rattle.layout.specs.Entities.{Numeric, SqlMapping, sqlMappings, valueIn, asOrNumeric}
 use Rattle.layout.specs.Reading.{Outcome, ok, refuse, _>>=_, need, read}
-use Rattle.layout.specs.Alone.{limit}
+use Rattle.layout.specs.Answers.{limit}
 use Rattle.layout.specs.Theorems.{Bytes}
 use Rattle.layout.proofs.Equations.{read-check}
 use Rattle.layout.proofs.InBytes.{behind, read-sound}
 use Rattle.leaf.specs.declared.Cursor.{Cursor}
-use Rattle.leaf.specs.State.{State, state, start, seek}
+use Rattle.leaf.specs.State.{ReadState, readState, newCursor, seek}
 use Rattle.leaf.specs.Run.{run}
 use Rattle.leaf.specs.Theorems.{arriveAll, Follows}
 use Rattle.leaf.proofs.Reading.{arriveAll-refusal, moved-of, stops-of, run-read}
@@ -26,10 +26,9 @@ use Rattle.parts.specs.declared.Found.{Found}
 use Rattle.parts.specs.declared.Found.the-variants.{Refused, Stored, Numeric as Numeric′}
 use Rattle.parts.specs.declared.OptionU32.{OptionU32}
 use Rattle.parts.specs.declared.SqlPlace.{SqlPlace}
-use Rattle.parts.specs.declared.SqlPlace.the-variants.{Section, Buffer, Refused as Refused′}
 use Rattle.parts.specs.Parts.{numberIn, placeIn}
 use Rattle.parts.specs.Numeric.{numericSize, optionOf}
-use Rattle.parts.specs.SqlText.{TextMapping, SqlText, stored, numeric, numberIf, textOfLeaves, sqlTextOf, sqlText, stands}
+use Rattle.parts.specs.SqlText.{TextMapping, SqlText, in-section, in-buffer, numberIf, textOfLeaves, sqlTextOf, sqlText, SqlAnswer, sqlAnswer, sqlAnswerOf}
 use Rattle.parts.specs.Theorems.{As-part, Filled-part}
 use Rattle.parts.specs.Private.{outcomeOf, sizedFor, Within}
 use Rattle.parts.proofs.Places.{refused-within}
@@ -46,17 +45,17 @@ module _ (s : List ℕ) (at size : ℕ) where
   module _ (small : length s ≤ limit) where
     refused : (n p : ℕ) → read SqlMapping s at ≡ refuse n p → refuse n p ≡ sqlText s at size
     unfolding sqlText TextMapping
-    refused n p e = rw (le-leb (length s) limit small, read-check SqlMapping (λ ls. asOrNumeric 1 (valueIn ls 0)) s at, e)
+    refused n p e = rw (le-leb (length s) limit small, read-check SqlMapping (λ values. asOrNumeric 1 (getD values 0 0)) s at, e)
 
     module _ (ls : List Leaf) (end : ℕ) (e : read SqlMapping s at ≡ ok ls end) where
       other : (valueIn ls 0 ≡ 1 → ⊥) → (valueIn ls 0 ≡ 3 → ⊥) → refuse 10 at ≡ sqlText s at size
       unfolding sqlText TextMapping
-      other h k = rw (le-leb (length s) limit small, read-check SqlMapping (λ ls. asOrNumeric 1 (valueIn ls 0)) s at, e, ne-eqb (valueIn ls 0) 1 h, ne-eqb (valueIn ls 0) 3 k)
+      other h k = rw (le-leb (length s) limit small, read-check SqlMapping (λ values. asOrNumeric 1 (getD values 0 0)) s at, e, ne-eqb (valueIn ls 0) 1 h, ne-eqb (valueIn ls 0) 3 k)
 
       -- As or Numeric: only the buffer's size is left to test
       good : asOrNumeric 1 (valueIn ls 0) ≡ fine → sqlText s at size ≡ need (eqb size numericSize) 17 0 (sqlTextOf at ls end)
       unfolding sqlText TextMapping
-      good v = rw (le-leb (length s) limit small, read-check SqlMapping (λ ls. asOrNumeric 1 (valueIn ls 0)) s at, e, v)
+      good v = rw (le-leb (length s) limit small, read-check SqlMapping (λ values. asOrNumeric 1 (getD values 0 0)) s at, e, v)
 
       good-as : valueIn ls 0 ≡ 1 → (x : ℕ) → x ≡ end → sqlText s at size ≡ need (eqb size numericSize) 17 0 (outcomeOf (Stored (at + 5) x))
       good-as h x l = good (rw h) ∙ rw (h, l)
@@ -87,10 +86,10 @@ as-length : (ls others : List Leaf) (n : ℕ) (t : List ℕ) → ls ≡ plain Ta
 as-length ls others n t a b = rw (a, b, append-nil t) (omega arith)
 
 -- A table of five rows has the values of a Numeric mapping's leaves
-abbrev begun : ℕ → State
-begun at = state (seek at start) (replicate (5 * rowWidth) 0)
+abbrev begun : ℕ → ReadState
+begun at = readState (seek at newCursor) (replicate (5 * rowWidth) 0)
 
-values : (at : ℕ) (ls : List Leaf) (f p g q : ℕ) (r : State) → ls ≡ plain Tag 3 ∷ plain Flag f ∷ plain Number p ∷ plain Flag g ∷ plain Number q ∷ []
+values : (at : ℕ) (ls : List Leaf) (f p g q : ℕ) (r : ReadState) → ls ≡ plain Tag 3 ∷ plain Flag f ∷ plain Number p ∷ plain Flag g ∷ plain Number q ∷ []
     → r ≡ arriveAll ls (begun at)
     → (valueAt (r .table) 1 ≡ valueIn ls 1) × (valueAt (r .table) 2 ≡ valueIn ls 2) × (valueAt (r .table) 3 ≡ valueIn ls 3) × (valueAt (r .table) 4 ≡ valueIn ls 4)
 values at ls f p g q r k m = rw (m, k) (refl, refl, refl, refl)
@@ -130,8 +129,8 @@ module _ (s : List ℕ) (u : Bytes s) (at : ℕ) (ls : List Leaf) (end : ℕ) (e
       (λ w e. (w .0, w .1 .0, w .1 .1 .0, w .1 .1 .1, e)) (tagged .1) (tagged .2)
 
 -- The reading by a cursor, with a table of five rows
-module _ (s : List ℕ) (at size : ℕ) (small : length s ≤ limit) (c : Cursor) (b : c ≡ seek at start) (r : State)
-    (e : r ≡ run SqlMapping s (state c (replicate (5 * rowWidth) 0))) where
+module _ (s : List ℕ) (at size : ℕ) (small : length s ≤ limit) (c : Cursor) (b : c ≡ seek at newCursor) (r : ReadState)
+    (e : r ≡ run SqlMapping s (readState c (replicate (5 * rowWidth) 0))) where
   followed : Follows (begun at) r (read SqlMapping s at)
   followed = rw (e, b) (run-read s small SqlMapping (begun at) refl)
 
@@ -139,7 +138,7 @@ module _ (s : List ℕ) (at size : ℕ) (small : length s ≤ limit) (c : Cursor
   stop-read h = go (read SqlMapping s at) followed
     where
       go : (o : Outcome ℕ (List Leaf)) → Follows (begun at) r o → o ≡ refuse (r .cursor .refusal) (r .cursor .place)
-      go (ok ls end) f = absurd (h (ap (λ (x : State). x .cursor .refusal) (moved-of f .0) ∙ arriveAll-refusal ls (begun at)))
+      go (ok ls end) f = absurd (h (ap (λ (x : ReadState). x .cursor .refusal) (moved-of f .0) ∙ arriveAll-refusal ls (begun at)))
       go (refuse n p) f = rw (stops-of f .0, stops-of f .2)
 
   pub stop-place : (r .cursor .refusal ≡ 0 → ⊥) → at < 4294967296 → r .cursor .place < 4294967296
@@ -183,26 +182,20 @@ module _ (s : List ℕ) (at size : ℕ) (small : length s ≤ limit) (c : Cursor
         let (v₁, v₂, v₃, v₄) = values at ls x₁ x₂ x₃ x₄ r k m in
         sized-right s at size (Numeric′ p q) (good-numeric s at size small ls end i (first s u at ls end i ∙ h) p q (hp ∙ rw (v₁, v₂)) (hq ∙ rw (v₃, v₄))) (λ x. x)
 
--- The number and the place of a refusal, 0 where the text stands
-abbrev pub numberOf : SqlPlace → ℕ
-numberOf (Section start len) = 0
-numberOf (Buffer len) = 0
-numberOf (Refused′ n p) = n
-
-abbrev pub placeOf : SqlPlace → ℕ
-placeOf (Section start len) = 0
-placeOf (Buffer len) = 0
-placeOf (Refused′ n p) = p
-
-pub told : (o : Outcome ℕ SqlText) (r : SqlPlace) → r ≡ stands o → (numberOf r ≡ numberIn o) × (placeOf r ≡ placeIn o)
-told (ok (stored start) end) r e = (ap numberOf e, ap placeOf e)
-told (ok (numeric t) end) r e = (ap numberOf e, ap placeOf e)
-told (refuse n p) r e = (ap numberOf e, ap placeOf e)
+pub told : (o : Outcome ℕ SqlText) (q r : SqlPlace) → q ≡ r → sqlAnswerOf q ≡ sqlAnswer o → (sqlAnswerOf r .number ≡ numberIn o) × (sqlAnswerOf r .place ≡ placeIn o)
+told o q r k h =
+    let e : sqlAnswerOf r ≡ sqlAnswer o = ap sqlAnswerOf (sym k) ∙ h in
+    (ap (λ (a : SqlAnswer). a .number) e ∙ go o .0, ap (λ (a : SqlAnswer). a .place) e ∙ go o .1)
+  where
+    go : (m : Outcome ℕ SqlText) → (sqlAnswer m .number ≡ numberIn m) × (sqlAnswer m .place ≡ placeIn m)
+    go (ok (in-section start) end) = (refl, refl)
+    go (ok (in-buffer t) end) = (refl, refl)
+    go (refuse n p) = (refl, refl)
 
 pub as-part : As-part
 as-part s small u at t end e buffer =
     let ls = plain Tag 1 ∷ string t ∷ [] in
-    let o : sqlText s at numericSize ≡ ok (stored (at + 5)) end = good-as s at numericSize small ls end e refl end refl in
+    let o : sqlText s at numericSize ≡ ok (in-section (at + 5)) end = good-as s at numericSize small ls end e refl end refl in
     let (v, p, q, (a, b)) = read-sound SqlMapping s u at ls end e in
     let k : bytesOf (leaves SqlMapping v) ≡ (1 ∷ four (length t)) ++ t = rw (q, append-nil t) in
     let l : end - (at + 5) ≡ length t = omega (arith, b, ap length k) in
@@ -210,14 +203,14 @@ as-part s small u at t end e buffer =
     rw (o, l, d) (take-append-seam t (drop end s))
 
 -- Where a Numeric text ends in the buffer
-numeric-end : (s : List ℕ) (at size : ℕ) (t : List ℕ) (end : ℕ) → sqlText s at size ≡ ok (numeric t) end → end ≡ length t
+numeric-end : (s : List ℕ) (at size : ℕ) (t : List ℕ) (end : ℕ) → sqlText s at size ≡ ok (in-buffer t) end → end ≡ length t
 unfolding sqlText
 numeric-end s at size t end e = given (leb (length s) limit) e
   where
     Gives : Outcome ℕ SqlText → Type 0
-    Gives o = o ≡ ok (numeric t) end
+    Gives o = o ≡ ok (in-buffer t) end
 
-    chosen : (b : Bool) (ls : List Leaf) (k : ℕ) → Gives (cond b (ok (stored (at + 5)) k) (ok (numeric (textOfLeaves ls)) (length (textOfLeaves ls)))) → end ≡ length t
+    chosen : (b : Bool) (ls : List Leaf) (k : ℕ) → Gives (cond b (ok (in-section (at + 5)) k) (ok (in-buffer (textOfLeaves ls)) (length (textOfLeaves ls)))) → end ≡ length t
     chosen true ls k q = let z : _≡_ {A = ℕ} 0 1 = cc in absurd (omega arith)
     chosen false ls k q =
         let a : textOfLeaves ls ≡ t = cc in

@@ -4,17 +4,18 @@ use mathlib.Core.Bool.{Bool, cond, _&&_}
 use mathlib.Core.List.{List, [], _∷_}
 use lib.Dec.{eqb, leb}
 use lib.ListN.{length, take, drop}
+use Rattle.layout.specs.Written.{textSort}
 use Rattle.layout.specs.Reading.{Outcome, ok, refuse, need, utf8, enough}
-use Rattle.layout.specs.Alone.{limit}
+use Rattle.layout.specs.Answers.{limit}
 use Rattle.parts.specs.declared.Row.{Row}
 
 -- The part of some bytes from a start up to an end
 abbrev pub between : List ℕ → (start end : ℕ) → List ℕ
 between s start end = take (end - start) (drop start s)
 
--- A row that is a text of the bytes given: its sort is 6, it does not leave them, and they are RFC 3629 there
+-- A row that is a text of the bytes given: its sort is a text's, it does not leave them, and they are RFC 3629 there
 abbrev pub isText : List ℕ → Row → Bool
-isText s row = eqb (row .sort) 6 && (enough s (row .offset) (row .value) && utf8 (take (row .value) (drop (row .offset) s)))
+isText s row = eqb (row .sort) textSort && (enough s (row .offset) (row .value) && utf8 (take (row .value) (drop (row .offset) s)))
 
 -- The text of a row, by its start and its end: 1; then 15
 unfoldable pub rowText : List ℕ → Row → Outcome ℕ ℕ

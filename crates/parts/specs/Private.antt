@@ -10,7 +10,7 @@ use Rattle.parts.specs.declared.Found.{Found}
 use Rattle.parts.specs.declared.Found.the-variants.{Refused, Stored, Numeric}
 use Rattle.parts.specs.Parts.{colon}
 use Rattle.parts.specs.Numeric.{numericText, numericSize, optionOf}
-use Rattle.parts.specs.SqlText.{SqlText, stored, numeric}
+use Rattle.parts.specs.SqlText.{SqlText, in-section, in-buffer}
 
 -- Two colons stand at a place
 abbrev pub colonsAt : List ℕ → ℕ → Bool
@@ -19,8 +19,8 @@ colonsAt s at = eqb (getD s at 0) colon && eqb (getD s (at + 1) 0) colon
 -- What the code found, as an outcome
 abbrev pub outcomeOf : Found → Outcome ℕ SqlText
 outcomeOf (Refused n p) = refuse n p
-outcomeOf (Stored start end) = ok (stored start) end
-outcomeOf (Numeric p q) = ok (numeric (numericText (optionOf p) (optionOf q))) (length (numericText (optionOf p) (optionOf q)))
+outcomeOf (Stored start end) = ok (in-section start) end
+outcomeOf (Numeric p q) = ok (in-buffer (numericText (optionOf p) (optionOf q))) (length (numericText (optionOf p) (optionOf q)))
 
 -- What was found, unless the buffer has another size
 abbrev pub sizedFor : ℕ → Found → Found

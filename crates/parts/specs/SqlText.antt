@@ -1,14 +1,14 @@
 -- The SQL text of a mapping: document 01, "The reading: entities and rows", and refusals 1, 5 to 7, 9, 10 and 17.
 use Prim.Native.Nat.{ℕ, _+_, _-_}
-use mathlib.Core.Bool.{cond}
+use mathlib.Core.Bool.{Bool, true, false, cond}
 use mathlib.Core.List.{List, [], _++_}
 use mathlib.Core.Option.{Option, none, some}
 use lib.Dec.{eqb, leb}
-use lib.ListN.{length, take, drop}
+use lib.ListN.{length, getD, take, drop}
 use Rattle.layout.specs.Layout.{Leaf, Layout, check}
 use Rattle.layout.specs.Entities.{SqlMapping, valueIn, asOrNumeric}
 use Rattle.layout.specs.Reading.{Outcome, ok, refuse, _>>=_, need, read}
-use Rattle.layout.specs.Alone.{limit}
+use Rattle.layout.specs.Answers.{limit}
 use Rattle.parts.specs.declared.SqlPlace.{SqlPlace}
 use Rattle.parts.specs.declared.SqlPlace.the-variants.{Section, Buffer, Refused}
 use Rattle.parts.specs.Parts.{between}
@@ -17,12 +17,12 @@ use Rattle.parts.specs.Numeric.{numericText, numericSize}
 -- A mapping that has an SQL text: As or Numeric, like the mapping of a declaration's result that is Ok. Any other gets 10 at
 -- its tag, once it is read
 unfoldable pub TextMapping : Layout
-TextMapping = check SqlMapping (λ ls. asOrNumeric 1 (valueIn ls 0))
+TextMapping = check SqlMapping (λ values. asOrNumeric 1 (getD values 0 0))
 
 -- Where an SQL text stands: in the section from a start on; or, as a Numeric text, at the start of the lent buffer
 pub data SqlText : Type 0 where
-  stored : (start : ℕ) → SqlText
-  numeric : (text : List ℕ) → SqlText
+  in-section : (start : ℕ) → SqlText
+  in-buffer : (text : List ℕ) → SqlText
 
 -- The number behind a flag, if the flag is 1
 abbrev pub numberIf : (flag number : ℕ) → Option ℕ
@@ -35,7 +35,7 @@ textOfLeaves ls = numericText (numberIf (valueIn ls 1) (valueIn ls 2)) (numberIf
 -- The SQL text of a mapping at a place, from its leaves, and where the text ends. That of As stands behind the tag and the
 -- 4-byte length, and ends where the mapping does; that of Numeric ends in the buffer
 abbrev pub sqlTextOf : (place : ℕ) → List Leaf → (end : ℕ) → Outcome ℕ SqlText
-sqlTextOf at ls end = cond (eqb (valueIn ls 0) 1) (ok (stored (at + 5)) end) (ok (numeric (textOfLeaves ls)) (length (textOfLeaves ls)))
+sqlTextOf at ls end = cond (eqb (valueIn ls 0) 1) (ok (in-section (at + 5)) end) (ok (in-buffer (textOfLeaves ls)) (length (textOfLeaves ls)))
 
 -- The SQL text of the mapping at an offset, with a buffer of some size: 1; then 5 to 7, 9 and 10; then 17
 unfoldable pub sqlText : List ℕ → (offset size : ℕ) → Outcome ℕ SqlText
@@ -46,18 +46,37 @@ sqlText s offset size =
 
 -- The part of the section or of the buffer: under a refusal it is empty
 abbrev pub sqlPartOf : (section buffer : List ℕ) → Outcome ℕ SqlText → List ℕ
-sqlPartOf section buffer (ok (stored start) end) = between section start end
-sqlPartOf section buffer (ok (numeric text) end) = take end buffer
+sqlPartOf section buffer (ok (in-section start) end) = between section start end
+sqlPartOf section buffer (ok (in-buffer text) end) = take end buffer
 sqlPartOf section buffer (refuse n p) = []
 
 -- The buffer afterwards: only the bytes of a Numeric text change, at its start
 abbrev pub filled : (buffer : List ℕ) → Outcome ℕ SqlText → List ℕ
-filled buffer (ok (stored start) end) = buffer
-filled buffer (ok (numeric text) end) = text ++ drop end buffer
+filled buffer (ok (in-section start) end) = buffer
+filled buffer (ok (in-buffer text) end) = text ++ drop end buffer
 filled buffer (refuse n p) = buffer
 
--- Where it stands, with its length; or the refusal
-abbrev pub stands : Outcome ℕ SqlText → SqlPlace
-stands (ok (stored start) end) = Section start (end - start)
-stands (ok (numeric text) end) = Buffer end
-stands (refuse n p) = Refused n p
+-- What is answered of an SQL text: the number and the place of a refusal, else 0 and 0; whether it stands in the buffer; where it
+-- starts, there or in the section, and its length, after a refusal 0 and 0
+pub record SqlAnswer : Type 0 where
+  pub number : ℕ
+  pub place : ℕ
+  pub buffered : Bool
+  pub start : ℕ
+  pub len : ℕ
+
+-- A refusal of it
+abbrev pub refusedSql : (number place : ℕ) → SqlAnswer
+refusedSql number place = record { number = number; place = place; buffered = false; start = 0; len = 0 }
+
+-- The answer for what is read
+abbrev pub sqlAnswer : Outcome ℕ SqlText → SqlAnswer
+sqlAnswer (ok (in-section start) end) = record { number = 0; place = 0; buffered = false; start = start; len = end - start }
+sqlAnswer (ok (in-buffer text) end) = record { number = 0; place = 0; buffered = true; start = 0; len = end }
+sqlAnswer (refuse number place) = refusedSql number place
+
+-- What each case of the code's answer is
+abbrev pub sqlAnswerOf : SqlPlace → SqlAnswer
+sqlAnswerOf (Section start len) = record { number = 0; place = 0; buffered = false; start = start; len = len }
+sqlAnswerOf (Buffer len) = record { number = 0; place = 0; buffered = true; start = 0; len = len }
+sqlAnswerOf (Refused number place) = refusedSql number place

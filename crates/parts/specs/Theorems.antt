@@ -8,12 +8,12 @@ use Rattle.layout.specs.Layout.{Tag, plain, string, text}
 use Rattle.layout.specs.Written.{rowAt}
 use Rattle.layout.specs.Entities.{SqlMapping}
 use Rattle.layout.specs.Reading.{ok, read}
-use Rattle.layout.specs.Alone.{limit}
+use Rattle.layout.specs.Answers.{limit}
 use Rattle.layout.specs.Theorems.{Bytes}
 use Rattle.parts.specs.declared.Row.{Row}
 use Rattle.parts.specs.Parts.{rowText, partOf, sqlName, sqlNameIn}
 use Rattle.parts.specs.Numeric.{numericSize}
-use Rattle.parts.specs.SqlText.{numeric, sqlText, sqlPartOf, filled}
+use Rattle.parts.specs.SqlText.{in-buffer, sqlText, sqlPartOf, filled}
 
 -- The text of a row lies in the bytes: `row-lies` in RowText.antt
 abbrev pub Row-lies : Type 0
@@ -47,5 +47,5 @@ As-part =
 -- Of a buffer that was filled, the part is the Numeric text: `filled-part` in SqlText.antt
 abbrev pub Filled-part : Type 0
 Filled-part =
-    (s : List ℕ) (at size : ℕ) (t : List ℕ) (end : ℕ) → sqlText s at size ≡ ok (numeric t) end
+    (s : List ℕ) (at size : ℕ) (t : List ℕ) (end : ℕ) → sqlText s at size ≡ ok (in-buffer t) end
     → (buffer : List ℕ) → sqlPartOf s (filled buffer (sqlText s at size)) (sqlText s at size) ≡ t

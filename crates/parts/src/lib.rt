@@ -5,11 +5,11 @@ ghost use Prim.Native.Nat.{_+_, _*_, _<_, _≤_};
 ghost use lib.ListN.{length, drop};
 ghost use Rattle.decimal.specs.Decimal.{decimal};
 ghost use Rattle.layout.specs.Written.{rowWidth, valueAt};
-ghost use Rattle.leaf.specs.State.{start, seek};
+ghost use Rattle.leaf.specs.State.{newCursor, seek};
 ghost use Rattle.paste.specs.Pasted.{pasted};
 ghost use Rattle.parts.specs.Parts.{rowText, partOf, numberIn, placeIn, sqlName};
 ghost use Rattle.parts.specs.Numeric.{numericText, numericSize, numericSql, optionOf};
-ghost use Rattle.parts.specs.SqlText.{numberIf, sqlText, sqlPartOf, filled, stands};
+ghost use Rattle.parts.specs.SqlText.{numberIf, sqlText, sqlPartOf, filled, sqlAnswer, sqlAnswerOf};
 ghost use Rattle.parts.specs.Private.{colonsAt, outcomeOf, sizedFor, Within};
 
 // The place of the value in a row.
@@ -182,7 +182,7 @@ pub enum SqlPlace {
 // Fills the start of a lent buffer with the SQL text of the mapping at an offset, if the mapping is Numeric, and says where the
 // SQL text stands.
 pub fn place_sql_text(section: &[u8], offset: u32, buffer: &mut [u8]) -> SqlPlace
-    ensures { λ r. ⌜ r ≡ stands (sqlText (now (section .entry)) offset (length (now (buffer .entry)))) ⌝ }
+    ensures { λ r. ⌜ sqlAnswerOf r ≡ sqlAnswer (sqlText (now (section .entry)) offset (length (now (buffer .entry)))) ⌝ }
     ensures { λ r. ⌜ now (buffer .exit) ≡ filled (now (buffer .entry)) (sqlText (now (section .entry)) offset (length (now (buffer .entry)))) ⌝ }
 {
     let found = find_sql_text(section, offset, buffer.len());
@@ -305,7 +305,7 @@ fn sized(size: usize, found: Found) -> Found
 
 // A cursor at a byte.
 fn cursor_at(at: usize) -> Cursor
-    ensures { λ r. ⌜ r ≡ seek at start ⌝ }
+    ensures { λ r. ⌜ r ≡ seek at newCursor ⌝ }
 {
     Cursor::new().seek(at)
 }

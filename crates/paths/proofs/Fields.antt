@@ -11,8 +11,8 @@ use borrow.Author.Tests.{leb-true, ne-eqb}
 use Rattle.layout.specs.Layout.{Kind, Number, Leaf, plain, string, fine, wrong, unknown-kind, Value, leaves, Fits, Meets, Proper}
 use Rattle.layout.specs.Written.{four, leafBytes, bytesOf, bytes}
 use Rattle.layout.specs.Forms.{known, follows}
-use Rattle.layout.specs.Entities.{Entity, entities, CustomSql, Function, PostgresType, PostgresEnum, OrdOrHash, Aggregate, Trigger}
-use Rattle.layout.specs.Alone.{limit}
+use Rattle.layout.specs.Entities.{Entity, entityKinds, CustomSql, Function, PostgresType, PostgresEnum, OrdOrHash, Aggregate, Trigger}
+use Rattle.layout.specs.Answers.{limit}
 use Rattle.layout.proofs.InBytes.{behind, bytesOf-append, four-complete}
 use Rattle.layout.proofs.Tables.{known-outside}
 use Rattle.leaf.specs.State.{lengthAt}
@@ -120,16 +120,16 @@ data Cutting (kind : ℕ) (ls : List Leaf) : Type 0 where
   cut : Cut kind ls → Cutting kind ls
 
 -- No kind is above 9
-kind-above : (n : ℕ) → 9 < n → known unknown-kind entities n ≡ fine → ⊥
+kind-above : (n : ℕ) → 9 < n → known unknown-kind entityKinds n ≡ fine → ⊥
 kind-above n h k =
-    let e : known unknown-kind entities n ≡ wrong unknown-kind = known-outside unknown-kind entities n (above 1 (omega arith), (above 2 (omega arith), (above 3 (omega arith), (above 4 (omega arith), (above 5 (omega arith), (above 6 (omega arith), (above 7 (omega arith), (above 8 (omega arith), (above 9 (omega arith), tt))))))))) in
+    let e : known unknown-kind entityKinds n ≡ wrong unknown-kind = known-outside unknown-kind entityKinds n (above 1 (omega arith), (above 2 (omega arith), (above 3 (omega arith), (above 4 (omega arith), (above 5 (omega arith), (above 6 (omega arith), (above 7 (omega arith), (above 8 (omega arith), (above 9 (omega arith), tt))))))))) in
     let z : _≡_ {A = ℕ} 0 1 = cc in
     omega arith
   where
     above : (m : ℕ) → m ≤ 9 → n ≢ m
     above m l = λ e. omega arith
 
-cut-kind : (kind : ℕ) (b : Value (follows entities kind)) → known unknown-kind entities kind ≡ fine → Meets Fits (follows entities kind) b → Cutting kind (leaves (follows entities kind) b)
+cut-kind : (kind : ℕ) (b : Value (follows entityKinds kind)) → known unknown-kind entityKinds kind ≡ fine → Meets Fits (follows entityKinds kind) b → Cutting kind (leaves (follows entityKinds kind) b)
 unfolding CustomSql Function PostgresType PostgresEnum OrdOrHash Aggregate Trigger
 cut-kind zero b k p = let z : _≡_ {A = ℕ} 0 1 = cc in absurd (omega arith)
 cut-kind (suc zero) b k p = whole refl
@@ -163,7 +163,7 @@ pub path-text : Path-text
 unfolding Entity
 path-text v p n = go (cut-kind (v .0) (v .2) (p .2) (p .3))
   where
-    go : Cutting (v .0) (leaves (follows entities (v .0)) (v .2)) → PathText (plain Kind (v .0) ∷ leaves (follows entities (v .0)) (v .2))
+    go : Cutting (v .0) (leaves (follows entityKinds (v .0)) (v .2)) → PathText (plain Kind (v .0) ∷ leaves (follows entityKinds (v .0)) (v .2))
     go (whole e) = absurd (n e)
     go (cut c) = record {
       before = plain Kind (v .0) ∷ c .before;

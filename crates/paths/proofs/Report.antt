@@ -1,17 +1,17 @@
 -- The report from the answer of a reading through any table.
 use Prim.Native.Nat.{ℕ, _≤_}
 use native.Mathlib.Omega.{arith}
-use mathlib.Core.Bool.{Bool, true, false, cond}
-use mathlib.Core.List.{List, []}
+use mathlib.Core.List.{List}
 use mathlib.Core.Path.{_≡_, refl, sym, ap, _∙_}
 use lib.Dec.{leb}
 use Rattle.layout.specs.Reading.{Outcome, ok, refuse}
-use Rattle.layout.specs.Answers.{Result, Given, wholeRows, acceptance, refusal}
+use Rattle.layout.specs.Answers.{Result, wholeRows}
 use Rattle.layout.specs.Theorems.{Bytes}
 use Rattle.layout.proofs.Walk.{all-ok}
+use Rattle.layout.proofs.Alone.{never-accepts, only-thirteen}
 use Rattle.leaf.specs.Finish.{answerOf, resultOf}
 use Rattle.leaf.specs.declared.Answer.the-variants.{Accepted, Refused}
-use Rattle.section.specs.Derivation.{Derivation, Placed, leafCount, givenOf, entitiesOf}
+use Rattle.section.specs.Derivation.{Derivation, Placed, totalLeaves, givenOf, entitiesOf}
 use Rattle.section.specs.Section.{readSection, reading}
 use Rattle.section.specs.Demand3.{Good}
 use Rattle.section.proofs.Section.{section-complete, section-sound}
@@ -37,13 +37,9 @@ module _ (s : List ℕ) (n p : ℕ) (e : readSection s ≡ refuse n p) where
   answer-is table = rw e
 
 -- A derived section is refused by 13 alone
-thirteen : (b : Bool) (g : Given) (table : List ℕ) (n p : ℕ) → cond b (acceptance g table) (refusal 13 0 table) .answer ≡ answers.refused n p → n ≡ 13
-thirteen true g table n p q = let z : _≡_ {A = ℕ} 0 1 = cc in absurd (omega arith)
-thirteen false g table n p q = cc
-
-only-thirteen : (s : List ℕ) (es : List Placed) (end : ℕ) → readSection s ≡ ok es end → (table : List ℕ) (n p : ℕ) → reading s table .answer ≡ answers.refused n p → n ≡ 13
+derived-thirteen : (s : List ℕ) (es : List Placed) (end : ℕ) → readSection s ≡ ok es end → (table : List ℕ) (n p : ℕ) → reading s table .answer ≡ answers.refused n p → n ≡ 13
 unfolding reading
-only-thirteen s es end e table n p q = thirteen (leb (leafCount es) (wholeRows table)) (givenOf es) table n p (rw e at q)
+derived-thirteen s es end e table n p q = only-thirteen (leb (totalLeaves es) (wholeRows table)) (givenOf es) table n p (rw e at q)
 
 -- The whole section
 abbrev whole : (s : List ℕ) (d : Derivation) → Good s d → Rest s 0
@@ -64,7 +60,7 @@ report-numbered s u n p q = go (readSection s) refl
     go (refuse m t) e =
         let k : refused m t ≡ refused n p = rw e at q in
         let j : m ≡ n = cc in
-        rw (← j) (refusal-numbered s m t e)
+        rw (← j) (refusal-numbered s m t (refusal-exact s u m t .0 e))
 
 -- No refusal of 1 to 12 is met
 abbrev pub Passes : declared.Answer → Type 0
@@ -82,13 +78,10 @@ module _ (s : List ℕ) (u : Bytes s) (table after : List ℕ) (r : declared.Ans
       go : (m : Outcome ℕ (List Placed)) → readSection s ≡ m → (v : declared.Answer) → reading s table .answer ≡ answerOf v → Passes v → (d : Derivation) × Good s d
       go (ok es end) k v q h = let d = all-ok (section-sound s u) k in (d .0, d .1)
       go (refuse n p) k (Accepted entities rows) q h =
-          let i = answer-is s n p k table in
-          let z : _≡_ {A = ℕ} 0 1 = cc in
-          absurd (omega arith)
+          never-accepts (sym q ∙ answer-is s n p k table)
       go (refuse n p) k (Refused number place) q h =
-          let i = answer-is s n p k table in
-          let j : n ≡ number = cc in
-          absurd (omega (arith, refusal-numbered s n p k .1))
+          let j : n ≡ number = ap (λ (a : answers.Answer). a .number) (sym (answer-is s n p k table) ∙ q) in
+          absurd (omega (arith, refusal-numbered s n p (refusal-exact s u n p .0 k)))
 
   pub passed : (v : declared.Answer) → r ≡ v → Passes v → Rest s 0
   passed v q h = let (d, g) = derived v q h in whole s d g
@@ -100,9 +93,9 @@ module _ (s : List ℕ) (u : Bytes s) (table after : List ℕ) (r : declared.Ans
   report-stopped n p q h = go (readSection s) refl
     where
       go : (m : Outcome ℕ (List Placed)) → readSection s ≡ m → refused n p ≡ report s
-      go (ok es end) k = absurd (h (only-thirteen s es end k table n p (answer-read (Refused n p) q)))
+      go (ok es end) k = absurd (h (derived-thirteen s es end k table n p (answer-read (Refused n p) q)))
       go (refuse m t) k =
-          let i = answer-is s m t k table in
-          let l = answer-read (Refused n p) q in
-          let j : (n ≡ m) × (p ≡ t) = (cc, cc) in
-          rw (j .0, j .1) (sym (report-refused s m t k))
+          let e = sym (answer-read (Refused n p) q) ∙ answer-is s m t k table in
+          let i : n ≡ m = ap (λ (a : answers.Answer). a .number) e in
+          let j : p ≡ t = ap (λ (a : answers.Answer). a .place) e in
+          rw (i, j) (sym (report-refused s m t k))

@@ -8,13 +8,14 @@ use mathlib.Core.Path.{_≡_, refl, sym, ap, _∙_}
 use lib.ListN.{length, getD, take, drop, replicate, length-drop}
 use lib.Seq.{getD-drop, length-take-le}
 use Rattle.layout.specs.Reading.{enough}
-use Rattle.layout.specs.Alone.{limit}
+use Rattle.layout.specs.Answers.{limit}
 use Rattle.leaf.specs.State.{lengthAt}
 use Rattle.leaf.proofs.Leaves.{length-there}
 use Rattle.section.specs.Derivation.{Item, sentinel, entity, Derivation, payload, entries, ProperItems, placed}
 use Rattle.section.specs.Section.{same}
 use Rattle.section.proofs.Derivation.{payload-some, payload-small, derivation-unique}
-use Rattle.section.proofs.Framing.{entry-at, not-true}
+use Rattle.layout.proofs.BadReads.{not-true}
+use Rattle.section.proofs.Framing.{entry-at}
 use Rattle.section.proofs.Section.{same-sound}
 use Rattle.paths.specs.Paths.{paths, equals, pairs}
 use Rattle.paths.specs.Private.{textFrom, pathPlace, textUnless0, pathAt, Rest, pathsOf, TextIn, PayloadIn, pairsWith, Counts, CountsWith}

@@ -47,7 +47,7 @@ fullPath ls = textField ls (fieldOf fullPathFields (valueIn ls 0))
 -- The full_path texts of entities, in order
 abbrev pub paths : List Placed → List (List ℕ)
 paths [] = []
-paths (e ∷ es) = fullPath (e .leaves) ++ paths es
+paths (e ∷ es) = fullPath (e .content) ++ paths es
 
 -- How many of some texts have the bytes of t
 abbrev pub equals : List ℕ → List (List ℕ) → ℕ
@@ -65,13 +65,13 @@ pub data Report : Type 0 where
   refused : (number place : ℕ) → Report
 
 -- The report on what is read
-abbrev pub told : Outcome ℕ (List Placed) → Report
-told (ok es end) = counted (pairs (paths es))
-told (refuse n p) = refused n p
+abbrev pub reportOn : Outcome ℕ (List Placed) → Report
+reportOn (ok es end) = counted (pairs (paths es))
+reportOn (refuse n p) = refused n p
 
 -- The report on a section: its refusals of 1 to 12 are the report's
 unfoldable pub report : List ℕ → Report
-report s = told (readSection s)
+report s = reportOn (readSection s)
 
 -- The number, or number and place, of each case
 abbrev pub reportOf : PathReport → Report

@@ -5,7 +5,7 @@ use mathlib.Core.List.{List, [], _∷_}
 use mathlib.Core.Path.{_≡_}
 use lib.Dec.{eqb}
 use lib.ListN.{length, getD, take, drop}
-use Rattle.layout.specs.Alone.{limit}
+use Rattle.layout.specs.Answers.{limit}
 use Rattle.leaf.specs.State.{lengthAt}
 use Rattle.section.specs.Derivation.{Derivation, placed}
 use Rattle.section.specs.Demand3.{DerivedBy}

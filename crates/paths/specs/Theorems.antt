@@ -7,7 +7,7 @@ use Rattle.layout.specs.Layout.{Leaf, string, Value, leaves, Proper}
 use Rattle.layout.specs.Entities.{Entity, valueIn}
 use Rattle.layout.specs.Theorems.{Bytes}
 use Rattle.section.specs.Derivation.{Derivation, entitiesOf}
-use Rattle.section.specs.Refusals.{Refusal}
+use Rattle.section.specs.Refusals.{SectionRefusal}
 use Rattle.section.specs.Demand3.{Good}
 use Rattle.paths.specs.Paths.{fullPathFields, fieldOf, fullPath, paths, pairs, counted, refused, report}
 
@@ -29,7 +29,7 @@ abbrev pub Report-exact : Type 0
 Report-exact =
     (s : List ℕ) → Bytes s
     → ((d : Derivation) → Good s d → report s ≡ counted (pairs (paths (entitiesOf d))))
-    × ((n p : ℕ) → Refusal s n p → report s ≡ refused n p)
+    × ((n p : ℕ) → SectionRefusal s n p → report s ≡ refused n p)
 
 -- A report's refusals are 1 to 12: `report-numbered` in Report.antt
 abbrev pub Report-numbered : Type 0

@@ -10,9 +10,9 @@ use lib.Dec.{eqb}
 use lib.ListN.{length, getD, drop, drop-of-length-le}
 use lib.Seq.{drop-cons}
 use borrow.Author.Tests.{eq-eqb, ne-eqb}
+use Rattle.layout.proofs.BadReads.{not-true}
 use Rattle.section.specs.Framing.{allZero}
 use Rattle.section.specs.Section.{same}
-use Rattle.section.proofs.Framing.{not-true}
 use Rattle.section.proofs.Section.{same-sound}
 
 pub byte-there : (s : List ℕ) (i : ℕ) → i < length s → drop i s ≡ getD s i 0 ∷ drop (i + 1) s

@@ -11,7 +11,7 @@ use Rattle.layout.specs.Entities.{Entity}
 use Rattle.layout.proofs.Numbers.{number-four}
 use Rattle.layout.proofs.Rows.{leaves-bytes}
 use Rattle.layout.proofs.InBytes.{value-unique}
-use Rattle.section.specs.Derivation.{Item, sentinel, entity, sentinelBytes, payload, entry, entries, ProperItem, ProperItems, Placed, placed, leafCount, entitiesOf, sentinels, leafSize, leafSizes, entitySizes}
+use Rattle.section.specs.Derivation.{Item, sentinel, entity, sentinelBytes, payload, entry, entries, ProperItem, ProperItems, Placed, placed, totalLeaves, entitiesOf, sentinels, leafSize, leafSizes, entitySizes}
 use Rattle.section.specs.Theorems.{Derivation-unique, Byte-sum, Rows-bound, movedBy, Sentinel-free}
 
 -- Sizes
@@ -36,9 +36,9 @@ entries-sum at (entity v ∷ is) =
 pub byte-sum : Byte-sum
 byte-sum d = omega (arith, entries-sum 0 (d .items), length-append (entries (d .items)) (replicate (d .padding) 0), length-replicate {A = ℕ} (d .padding) 0)
 
-leaves-sizes : (es : List Placed) → leafCount es ≤ entitySizes es
+leaves-sizes : (es : List Placed) → totalLeaves es ≤ entitySizes es
 leaves-sizes [] = omega arith
-leaves-sizes (e ∷ es) = omega (arith, leafSizes-bytes (e .leaves), leaves-bytes (e .leaves), leaves-sizes es)
+leaves-sizes (e ∷ es) = omega (arith, leafSizes-bytes (e .content), leaves-bytes (e .content), leaves-sizes es)
 
 pub rows-bound : Rows-bound
 rows-bound d = omega (arith, byte-sum d, leaves-sizes (entitiesOf d))
@@ -124,7 +124,7 @@ placed-append at (sentinel ∷ is) js =
     rw (← e) (placed-append (at + 4 + length sentinelBytes) is js)
 placed-append at (entity v ∷ is) js =
     let e : at + 4 + length (bytes Entity v) + length (entries is) ≡ at + length (entries (entity v ∷ is)) = omega (arith, length-append (bytes Entity v) (entries is)) in
-    rw (← e) (ap (λ (l : List Placed). record { at = at + 4; leaves = leaves Entity v } ∷ l) (placed-append (at + 4 + length (bytes Entity v)) is js))
+    rw (← e) (ap (λ (l : List Placed). record { at = at + 4; content = leaves Entity v } ∷ l) (placed-append (at + 4 + length (bytes Entity v)) is js))
 
 placed-moved : (n at : ℕ) (is : List Item) → placed (n + at) is ≡ map (movedBy n) (placed at is)
 placed-moved n at [] = refl
@@ -134,8 +134,8 @@ placed-moved n at (sentinel ∷ is) =
 placed-moved n at (entity v ∷ is) =
     let e : n + at + 4 + length (bytes Entity v) ≡ n + (at + 4 + length (bytes Entity v)) = omega arith in
     let f : n + at + 4 ≡ n + (at + 4) = omega arith in
-    ap (λ (x : ℕ). record { at = x; leaves = leaves Entity v } ∷ placed (n + at + 4 + length (bytes Entity v)) is) f
-    ∙ ap (λ (l : List Placed). record { at = n + (at + 4); leaves = leaves Entity v } ∷ l) (ap (λ (x : ℕ). placed x is) e ∙ placed-moved n (at + 4 + length (bytes Entity v)) is)
+    ap (λ (x : ℕ). record { at = x; content = leaves Entity v } ∷ placed (n + at + 4 + length (bytes Entity v)) is) f
+    ∙ ap (λ (l : List Placed). record { at = n + (at + 4); content = leaves Entity v } ∷ l) (ap (λ (x : ℕ). placed x is) e ∙ placed-moved n (at + 4 + length (bytes Entity v)) is)
 
 from-start : (is js : List Item) → placed 0 (is ++ js) ≡ placed 0 is ++ placed (length (entries is)) js
 from-start is js = placed-append 0 is js ∙ ap (λ (x : ℕ). placed 0 is ++ placed x js) (zero-add (length (entries is)))

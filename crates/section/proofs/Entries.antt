@@ -4,7 +4,7 @@ use native.Mathlib.Omega.{arith}
 use mathlib.Core.Bool.{Bool, true, false, cond, _&&_}
 use mathlib.Core.List.{List, [], _∷_, _++_, append-assoc, append-nil}
 use mathlib.Core.Logic.{_⊎_, inl, inr}
-use mathlib.Core.Path.{_≡_, refl, sym, ap, subst, _∙_}
+use mathlib.Core.Path.{_≡_, refl, sym, ap, _∙_}
 use lib.Dec.{ltb, leb}
 use lib.ListN.{length, take, drop, length-append, length-drop}
 use lib.Seq.{length-take-le}
@@ -13,13 +13,13 @@ use Rattle.layout.specs.Layout.{Leaf}
 use Rattle.layout.specs.Written.{bytes, rowWidth}
 use Rattle.layout.specs.Entities.{Entity}
 use Rattle.layout.specs.Reading.{Outcome, ok, refuse, _>>=_, numberAt, read}
-use Rattle.layout.specs.Answers.{wholeRows, refusal, tell}
-use Rattle.layout.specs.Alone.{limit}
+use Rattle.layout.specs.Answers.{limit, wholeRows, refusal}
+use Rattle.layout.specs.ReadAlone.{tell}
 use Rattle.layout.specs.Theorems.{Bytes}
 use Rattle.layout.proofs.Walk.{all-ok}
 use Rattle.layout.proofs.InBytes.{four-sound, number-small, read-sound}
 use Rattle.leaf.specs.declared.Cursor.{Cursor}
-use Rattle.leaf.specs.State.{State, state, start, seek, lengthAt, refusedOnce, stopped}
+use Rattle.leaf.specs.State.{ReadState, readState, newCursor, seek, lengthAt, refusedOnce, stopped}
 use Rattle.leaf.specs.Run.{run}
 use Rattle.leaf.specs.Finish.{finished}
 use Rattle.leaf.specs.Theorems.{arriveAll, Follows}
@@ -27,7 +27,7 @@ use Rattle.leaf.proofs.Leaves.{length-none, length-there}
 use Rattle.leaf.proofs.Table.{arriveAll-length, fills, shorts, stays-short}
 use Rattle.leaf.proofs.Reading.{arriveAll-refusal, moved-of, stops-of, run-read}
 use Rattle.leaf.proofs.Finish.{finished-refused, finished-told}
-use Rattle.section.specs.Derivation.{sentinelBytes, Placed, leafCount, rowsOf, givenOf}
+use Rattle.section.specs.Derivation.{sentinelBytes, Placed, totalLeaves, rowsOf, givenOf}
 use Rattle.section.specs.Framing.{allZero, Part, Parts}
 use Rattle.section.specs.Answers.{framingEnd}
 use Rattle.section.specs.Section.{same, ended, readEntity, readPayload, readPayloads, readSection}
@@ -211,32 +211,32 @@ reads-end s u at end h c q = let f = all-ok (framed-as s u at h) (c .frames) in 
         absurd (omega (arith, q, m, f .0, i .inside, entry-here s at (omega (arith, m, f .0)) (omega (arith, m, i .inside))))
 
 -- Entities that arrive
-arriveEntities-more : (es : List Placed) (e : Placed) (st : State) → arriveEntities (es ++ (e ∷ [])) st ≡ arriveAll (e .leaves) (seeks (e .at) (arriveEntities es st))
+arriveEntities-more : (es : List Placed) (e : Placed) (st : ReadState) → arriveEntities (es ++ (e ∷ [])) st ≡ arriveAll (e .content) (seeks (e .at) (arriveEntities es st))
 arriveEntities-more [] e st = refl
-arriveEntities-more (f ∷ es) e st = arriveEntities-more es e (arriveAll (f .leaves) (seeks (f .at) st))
+arriveEntities-more (f ∷ es) e st = arriveEntities-more es e (arriveAll (f .content) (seeks (f .at) st))
 
-arriveEntities-refusal : (es : List Placed) (st : State) → arriveEntities es st .cursor .refusal ≡ st .cursor .refusal
+arriveEntities-refusal : (es : List Placed) (st : ReadState) → arriveEntities es st .cursor .refusal ≡ st .cursor .refusal
 arriveEntities-refusal [] st = refl
-arriveEntities-refusal (e ∷ es) st = arriveEntities-refusal es (arriveAll (e .leaves) (seeks (e .at) st)) ∙ arriveAll-refusal (e .leaves) (seeks (e .at) st)
+arriveEntities-refusal (e ∷ es) st = arriveEntities-refusal es (arriveAll (e .content) (seeks (e .at) st)) ∙ arriveAll-refusal (e .content) (seeks (e .at) st)
 
-arriveEntities-length : (es : List Placed) (st : State) → length (arriveEntities es st .table) ≡ length (st .table)
+arriveEntities-length : (es : List Placed) (st : ReadState) → length (arriveEntities es st .table) ≡ length (st .table)
 arriveEntities-length [] st = refl
-arriveEntities-length (e ∷ es) st = arriveEntities-length es (arriveAll (e .leaves) (seeks (e .at) st)) ∙ arriveAll-length (e .leaves) (seeks (e .at) st)
+arriveEntities-length (e ∷ es) st = arriveEntities-length es (arriveAll (e .content) (seeks (e .at) st)) ∙ arriveAll-length (e .content) (seeks (e .at) st)
 
 -- The walk has come to a boundary
 pub record Come (s table : List ℕ) (at : ℕ) (g : Stage) : Type 0 where
   pub found : List Placed
-  pub stands : g ≡ stage (seeks at (arriveEntities found (state start table))) (length found)
+  pub stands : g ≡ stage (seeks at (arriveEntities found (readState newCursor table))) (length found)
   pub rest : readSection s ≡ before found (readFrom s at)
   pub walked : Walked s at
   pub few : length found ≤ at
 
-pub come-start : (s table : List ℕ) → length s ≤ limit → (g : Stage) → g ≡ stage (state start table) 0 → Come s table 0 g
+pub come-start : (s table : List ℕ) → length s ≤ limit → (g : Stage) → g ≡ stage (readState newCursor table) 0 → Come s table 0 g
 come-start s table h g e =
     record { found = []; stands = e; rest = section-from s h ∙ sym (before-none (readFrom s 0)); walked = walked-start s; few = omega arith }
 
 pub come-length : (s table : List ℕ) (at : ℕ) (g : Stage) → Come s table at g → length (g .state .table) ≡ length table
-come-length s table at g h = ap (λ (x : Stage). length (x .state .table)) (h .stands) ∙ arriveEntities-length (h .found) (state start table)
+come-length s table at g h = ap (λ (x : Stage). length (x .state .table)) (h .stands) ∙ arriveEntities-length (h .found) (readState newCursor table)
 
 -- Where an entry leads that ends at a boundary: to a refusal, or to that boundary
 pub record Leads (s table : List ℕ) (end : ℕ) (g : Stage) : Type 0 where
@@ -245,8 +245,8 @@ pub record Leads (s table : List ℕ) (end : ℕ) (g : Stage) : Type 0 where
 
 module _ (s table : List ℕ) (u : Bytes s) (small : length s ≤ limit) where
   module _ (at : ℕ) (es : List Placed) (rest : readSection s ≡ before es (readFrom s at)) (n : ℕ) (x : Next s at n) (few : length es ≤ at) where
-    abbrev st : State
-    st = arriveEntities es (state start table)
+    abbrev st : ReadState
+    st = arriveEntities es (readState newCursor table)
 
     abbrev z : ℕ
     z = at + 4 + n
@@ -273,16 +273,16 @@ module _ (s table : List ℕ) (u : Bytes s) (small : length s ≤ limit) where
 
     leads-sentinel : same (drop (at + 4) (take z s)) sentinelBytes ≡ true → Leads s table z (stage (seeks z st) (length es))
     leads-sentinel q =
-        leads-on (stage (seeks z st) (length es)) (arriveEntities-refusal es (state start table))
+        leads-on (stage (seeks z st) (length es)) (arriveEntities-refusal es (readState newCursor table))
         (record { found = es; stands = refl; rest = on [] z (is-sentinel q) ∙ rw append-nil; walked = x .walked; few = omega arith })
 
     -- An entity
     module _ (f : same (drop (at + 4) (take z s)) sentinelBytes ≡ false) where
-      abbrev r : State
+      abbrev r : ReadState
       r = run Entity (take z s) (seeks (at + 4) st)
 
       abbrev result : Stage
-      result = stage (state (closed z (r .cursor)) (r .table)) (length es + 1)
+      result = stage (readState (closed z (r .cursor)) (r .table)) (length es + 1)
 
       payload-read : (o : Outcome ℕ (List Leaf)) → read Entity (take z s) (at + 4) ≡ o → readPayload s (partAt at n) ≡ (o >>= λ ls e. ended (partAt at n) ls e)
       unfolding readPayload readEntity
@@ -292,7 +292,7 @@ module _ (s table : List ℕ) (u : Bytes s) (small : length s ≤ limit) where
       taken = length-take-le z s (x .inside)
 
       follows : Follows (seeks (at + 4) st) r (read Entity (take z s) (at + 4))
-      follows = run-read (take z s) (omega (arith, taken, x .inside)) Entity (seeks (at + 4) st) (arriveEntities-refusal es (state start table))
+      follows = run-read (take z s) (omega (arith, taken, x .inside)) Entity (seeks (at + 4) st) (arriveEntities-refusal es (readState newCursor table))
 
       closed-refused : (c : Cursor) → (c .refusal ≡ 0 → ⊥) → closed z c ≡ c
       closed-refused c w = go (ltb (c .at) z)
@@ -305,7 +305,7 @@ module _ (s table : List ℕ) (u : Bytes s) (small : length s ≤ limit) where
       entity-refused k p q =
           let (e, i, g, l) = stops-of (rw q at follows) in
           let v : closed z (r .cursor) ≡ r .cursor = closed-refused (r .cursor) (λ w. i (sym e ∙ w)) in
-          leads-refused result k p (ap (λ (c : Cursor). c .refusal) v ∙ e) i (ap (λ (c : Cursor). c .place) v ∙ g) (l ∙ arriveEntities-length es (state start table))
+          leads-refused result k p (ap (λ (c : Cursor). c .refusal) v ∙ e) i (ap (λ (c : Cursor). c .place) v ∙ g) (l ∙ arriveEntities-length es (readState newCursor table))
           (payload-read (refuse k p) q)
 
       -- The entity ends inside the payload
@@ -317,27 +317,27 @@ module _ (s table : List ℕ) (u : Bytes s) (small : length s ≤ limit) where
       entity-read : (ls : List Leaf) (m : ℕ) (b : Bool) → ltb m z ≡ b → read Entity (take z s) (at + 4) ≡ ok ls m → Leads s table z result
       entity-read ls m true w q =
           let (e, g) = moved-of (rw q at follows) in
-          let i : r .cursor .refusal ≡ 0 = ap (λ (y : State). y .cursor .refusal) e ∙ arriveAll-refusal ls (seeks (at + 4) st) ∙ arriveEntities-refusal es (state start table) in
+          let i : r .cursor .refusal ≡ 0 = ap (λ (y : ReadState). y .cursor .refusal) e ∙ arriveAll-refusal ls (seeks (at + 4) st) ∙ arriveEntities-refusal es (readState newCursor table) in
           let v : closed z (r .cursor) ≡ stopped 12 m (r .cursor) = rw (g, w, eq-eqb _ _ i) in
           leads-refused result 12 m (ap (λ (c : Cursor). c .refusal) v) (λ y. omega arith) (ap (λ (c : Cursor). c .place) v)
-          (ap (λ (y : State). length (y .table)) e ∙ arriveAll-length ls (seeks (at + 4) st) ∙ arriveEntities-length es (state start table))
+          (ap (λ (y : ReadState). length (y .table)) e ∙ arriveAll-length ls (seeks (at + 4) st) ∙ arriveEntities-length es (readState newCursor table))
           (payload-read (ok ls m) q ∙ rw (lt-leb z m (ltb-true m z w)))
       entity-read ls m false w q =
           let (e, g) = moved-of (rw q at follows) in
-          let i : r .cursor .refusal ≡ 0 = ap (λ (y : State). y .cursor .refusal) e ∙ arriveAll-refusal ls (seeks (at + 4) st) ∙ arriveEntities-refusal es (state start table) in
+          let i : r .cursor .refusal ≡ 0 = ap (λ (y : ReadState). y .cursor .refusal) e ∙ arriveAll-refusal ls (seeks (at + 4) st) ∙ arriveEntities-refusal es (readState newCursor table) in
           let y : m ≡ z = omega (arith, ltb-false m z w, ends-inside ls m q) in
           let v : closed z (r .cursor) ≡ r .cursor = rw (g, w) in
-          let j : Placed = record { at = at + 4; leaves = ls } in
-          let k : arriveEntities (es ++ (j ∷ [])) (state start table) ≡ r = arriveEntities-more es j (state start table) ∙ sym e in
+          let j : Placed = record { at = at + 4; content = ls } in
+          let k : arriveEntities (es ++ (j ∷ [])) (readState newCursor table) ≡ r = arriveEntities-more es j (readState newCursor table) ∙ sym e in
           let a : r .cursor .at ≡ z = g ∙ y in
           let l : length (es ++ (j ∷ [])) ≡ length es + 1 = length-append es (j ∷ []) in
           leads-on result (ap (λ (c : Cursor). c .refusal) v ∙ i)
           (record {
             found = es ++ (j ∷ []);
             stands =
-                ap (λ (c : Cursor). stage (state c (r .table)) (length es + 1)) v
+                ap (λ (c : Cursor). stage (readState c (r .table)) (length es + 1)) v
                 ∙ ap (λ (b : ℕ). stage (seeks b r) (length es + 1)) a
-                ∙ sym (ap (λ (t : State). stage (seeks z t) (length (es ++ (j ∷ [])))) k ∙ ap (λ (b : ℕ). stage (seeks z r) b) l);
+                ∙ sym (ap (λ (t : ReadState). stage (seeks z t) (length (es ++ (j ∷ [])))) k ∙ ap (λ (b : ℕ). stage (seeks z r) b) l);
             rest = on (j ∷ []) m (payload-read (ok ls m) q ∙ rw (le-leb z m (omega arith)));
             walked = x .walked;
             few = omega arith;
@@ -352,7 +352,7 @@ module _ (s table : List ℕ) (u : Bytes s) (small : length s ≤ limit) where
       where
         go : (b : Bool) → same (drop (at + 4) (take z s)) sentinelBytes ≡ b
             → Leads s table z (cond b (stage (seeks z st) (length es))
-            (stage (state (closed z (run Entity (take z s) (seeks (at + 4) st) .cursor)) (run Entity (take z s) (seeks (at + 4) st) .table)) (length es + 1)))
+            (stage (readState (closed z (run Entity (take z s) (seeks (at + 4) st) .cursor)) (run Entity (take z s) (seeks (at + 4) st) .table)) (length es + 1)))
         go true q = leads-sentinel q
         go false q = leads-entity q (read Entity (take z s) (at + 4)) refl
 
@@ -383,46 +383,46 @@ module _ (s table : List ℕ) (u : Bytes s) (small : length s ≤ limit) where
         all-read end f =
             let (e, k) = reads-end s u at end (h .walked .inside) (clear-from s at (h .walked) end f) (none-here s at (omega (arith, q))) in
             let r : readSection s ≡ ok (h .found) end = h .rest ∙ rw (k, append-nil) in
-            rw r (reads (h .stands ∙ ap (λ (x : ℕ). stage (seeks x (arriveEntities (h .found) (state start table))) (length (h .found))) (sym e)))
+            rw r (reads (h .stands ∙ ap (λ (x : ℕ). stage (seeks x (arriveEntities (h .found) (readState newCursor table))) (length (h .found))) (sym e)))
 
 -- Rows of entities in the table
-record Filled (es : List Placed) (st r : State) : Type 0 where
-  rows : r .cursor .rows ≡ st .cursor .rows + leafCount es
+record Filled (es : List Placed) (st r : ReadState) : Type 0 where
+  rows : r .cursor .rows ≡ st .cursor .rows + totalLeaves es
   short : r .cursor .short ≡ st .cursor .short
   front : take (rowWidth * r .cursor .rows) (r .table) ≡ take (rowWidth * st .cursor .rows) (st .table) ++ rowsOf es
 
-entities-fill : (es : List Placed) (st : State) → st .cursor .rows + leafCount es ≤ wholeRows (st .table) → Filled es st (arriveEntities es st)
+entities-fill : (es : List Placed) (st : ReadState) → st .cursor .rows + totalLeaves es ≤ wholeRows (st .table) → Filled es st (arriveEntities es st)
 entities-fill [] st h = record { rows = omega arith; short = refl; front = rw append-nil }
 entities-fill (e ∷ es) st h =
-    let f = fills (e .leaves) (seeks (e .at) st) (omega arith) in
-    let l = ap (λ (n : ℕ). n / rowWidth) (arriveAll-length (e .leaves) (seeks (e .at) st)) in
-    let i = entities-fill es (arriveAll (e .leaves) (seeks (e .at) st)) (omega (arith, f .rows, l)) in
+    let f = fills (e .content) (seeks (e .at) st) (omega arith) in
+    let l = ap (λ (n : ℕ). n / rowWidth) (arriveAll-length (e .content) (seeks (e .at) st)) in
+    let i = entities-fill es (arriveAll (e .content) (seeks (e .at) st)) (omega (arith, f .rows, l)) in
     record { rows = omega (arith, i .rows, f .rows); short = i .short ∙ f .short; front = i .front ∙ rw (f .front, append-assoc) }
 
-stays : (es : List Placed) (st : State) → st .cursor .short ≡ 1 → arriveEntities es st .cursor .short ≡ 1
+stays : (es : List Placed) (st : ReadState) → st .cursor .short ≡ 1 → arriveEntities es st .cursor .short ≡ 1
 stays [] st h = h
-stays (e ∷ es) st h = stays es (arriveAll (e .leaves) (seeks (e .at) st)) (stays-short (e .leaves) (seeks (e .at) st) h)
+stays (e ∷ es) st h = stays es (arriveAll (e .content) (seeks (e .at) st)) (stays-short (e .content) (seeks (e .at) st) h)
 
-entities-short : (es : List Placed) (st : State) → wholeRows (st .table) < st .cursor .rows + leafCount es → st .cursor .rows ≤ wholeRows (st .table) → arriveEntities es st .cursor .short ≡ 1
+entities-short : (es : List Placed) (st : ReadState) → wholeRows (st .table) < st .cursor .rows + totalLeaves es → st .cursor .rows ≤ wholeRows (st .table) → arriveEntities es st .cursor .short ≡ 1
 entities-short [] st h k = absurd (omega arith)
-entities-short (e ∷ es) st h k = go (leb (st .cursor .rows + length (e .leaves)) (wholeRows (st .table))) refl (λ a b. entities-short es (arriveAll (e .leaves) (seeks (e .at) st)) a b)
+entities-short (e ∷ es) st h k = go (leb (st .cursor .rows + length (e .content)) (wholeRows (st .table))) refl (λ a b. entities-short es (arriveAll (e .content) (seeks (e .at) st)) a b)
   where
-    go : (b : Bool) → leb (st .cursor .rows + length (e .leaves)) (wholeRows (st .table)) ≡ b
-        → (wholeRows (arriveAll (e .leaves) (seeks (e .at) st) .table) < arriveAll (e .leaves) (seeks (e .at) st) .cursor .rows + leafCount es → arriveAll (e .leaves) (seeks (e .at) st) .cursor .rows ≤ wholeRows (arriveAll (e .leaves) (seeks (e .at) st) .table)
-        → arriveEntities es (arriveAll (e .leaves) (seeks (e .at) st)) .cursor .short ≡ 1)
-        → arriveEntities es (arriveAll (e .leaves) (seeks (e .at) st)) .cursor .short ≡ 1
+    go : (b : Bool) → leb (st .cursor .rows + length (e .content)) (wholeRows (st .table)) ≡ b
+        → (wholeRows (arriveAll (e .content) (seeks (e .at) st) .table) < arriveAll (e .content) (seeks (e .at) st) .cursor .rows + totalLeaves es → arriveAll (e .content) (seeks (e .at) st) .cursor .rows ≤ wholeRows (arriveAll (e .content) (seeks (e .at) st) .table)
+        → arriveEntities es (arriveAll (e .content) (seeks (e .at) st)) .cursor .short ≡ 1)
+        → arriveEntities es (arriveAll (e .content) (seeks (e .at) st)) .cursor .short ≡ 1
     go true q i =
         let m = leb-true _ _ q in
-        let f = fills (e .leaves) (seeks (e .at) st) m in
-        let l = ap (λ (n : ℕ). n / rowWidth) (arriveAll-length (e .leaves) (seeks (e .at) st)) in
+        let f = fills (e .content) (seeks (e .at) st) m in
+        let l = ap (λ (n : ℕ). n / rowWidth) (arriveAll-length (e .content) (seeks (e .at) st)) in
         i (omega (arith, f .rows, l)) (omega (arith, f .rows, l))
-    go false q i = stays es (arriveAll (e .leaves) (seeks (e .at) st)) (shorts (e .leaves) (seeks (e .at) st) (leb-false _ _ q) k)
+    go false q i = stays es (arriveAll (e .content) (seeks (e .at) st)) (shorts (e .content) (seeks (e .at) st) (leb-false _ _ q) k)
 
 -- The answer at the end of the walk
 module _ (s table : List ℕ) (small : length s ≤ limit) (end : ℕ) (ends : length s ≤ end) where
   pub answers : (g : Stage) (o : Outcome ℕ (List Placed)) → Reads table end g o → finished (g .entities) s (g .state) ≡ tell (o >>= λ es e. ok (givenOf es) e) table
   answers g o (reads {es = es} {at = at} e) =
-      let st = state start table in
+      let st = readState newCursor table in
       ap (λ (x : Stage). finished (x .entities) s (x .state)) e
       ∙ finished-told (givenOf es) at s table (seeks end (arriveEntities es st)) small (arriveEntities-refusal es st) ends (arriveEntities-length es st)
       (λ k. let f = entities-fill es st (omega arith) in (f .rows ∙ omega arith, f .short, f .front)) (λ k. entities-short es st (omega arith) (omega arith))
@@ -430,12 +430,12 @@ module _ (s table : List ℕ) (small : length s ≤ limit) (end : ℕ) (ends : l
 
 -- One entry, from what the code's calls answer: n is its length, b whether it is the sentinel
 module _ (s : List ℕ) (g : Stage) (n : ℕ) (q : n ≡ lengthAt s (g .state .cursor .at)) (b : Bool) (e : b ≡ same (drop (g .state .cursor .at + 4) (take (g .state .cursor .at + 4 + n) s)) sentinelBytes) where
-  pub entry-sentinel : b ≡ true → (c : Cursor) → c ≡ seek (g .state .cursor .at + 4 + n) (g .state .cursor) → stage (state c (g .state .table)) (g .entities) ≡ pastEntry s g
+  pub entry-sentinel : b ≡ true → (c : Cursor) → c ≡ seek (g .state .cursor .at + 4 + n) (g .state .cursor) → stage (readState c (g .state .table)) (g .entities) ≡ pastEntry s g
   unfolding pastEntry
   entry-sentinel k c w = rw (← q, ← e, k, w)
 
-  pub entry-entity : b ≡ false → (c : Cursor) → c ≡ seek (g .state .cursor .at + 4) (g .state .cursor) → (r : State) → r ≡ run Entity (take (g .state .cursor .at + 4 + n) s) (state c (g .state .table))
-      → (d : Cursor) → d ≡ closed (g .state .cursor .at + 4 + n) (r .cursor) → stage (state d (r .table)) (g .entities + 1) ≡ pastEntry s g
+  pub entry-entity : b ≡ false → (c : Cursor) → c ≡ seek (g .state .cursor .at + 4) (g .state .cursor) → (r : ReadState) → r ≡ run Entity (take (g .state .cursor .at + 4 + n) s) (readState c (g .state .table))
+      → (d : Cursor) → d ≡ closed (g .state .cursor .at + 4 + n) (r .cursor) → stage (readState d (r .table)) (g .entities + 1) ≡ pastEntry s g
   unfolding pastEntry
   entry-entity k c w r v d y =
       let i : run Entity (take (g .state .cursor .at + 4 + n) s) (seeks (g .state .cursor .at + 4) (g .state)) ≡ r = sym (v ∙ rw w) in

@@ -5,17 +5,18 @@ use native.Mathlib.Omega.{arith}
 use mathlib.Core.Bool.{Bool, true, false, cond, and-eq-true-iff}
 use mathlib.Core.List.{List, [], _∷_, _++_, append-assoc, append-nil}
 use mathlib.Core.Path.{_≡_, refl, sym, ap, _∙_}
-use lib.Dec.{leb}
-use lib.ListN.{length, take, drop, replicate, length-append, length-drop, take-append-drop}
-use lib.Seq.{drop-drop, length-take-le, drop-append-seam}
+use lib.Dec.{eqb, leb}
+use lib.ListN.{length, getD, take, drop, replicate, length-append, length-drop, take-append-drop}
+use lib.Seq.{getD-drop, drop-drop, length-take-le, drop-append-seam}
 use borrow.Author.Tests.{leb-true, eqb-true, le-leb, lt-leb}
 use Rattle.layout.specs.Written.{four}
 use Rattle.layout.specs.Reading.{Outcome, ok, refuse, _>>=_, need, numberAt}
 use Rattle.layout.specs.Theorems.{Bytes}
 use Rattle.layout.proofs.Walk.{All, given, all-bind, all-need}
+use Rattle.layout.proofs.BadReads.{not-true}
 use Rattle.layout.proofs.InBytes.{behind, four-sound, number-small, four-complete}
 use Rattle.section.specs.Framing.{allZero, Part, Parts, boundary, boundaries, framing}
-use Rattle.section.specs.Refusals.{framed, Framable}
+use Rattle.section.specs.Refusals.{framed, Framable, NonZeroFrom}
 use Rattle.section.specs.Private.{framingFrom}
 use Rattle.section.proofs.Derivation.{four-zero}
 
@@ -83,6 +84,28 @@ allZero-sound (b ∷ t) e =
 allZero-complete : (m : ℕ) → allZero (replicate m 0) ≡ true
 allZero-complete zero = refl
 allZero-complete (suc m) = allZero-complete m
+
+-- Not all are zero exactly if one is not
+some-there : (t : List ℕ) → allZero t ≡ false → (i : ℕ) × (i < length t) × (1 ≤ getD t i 0)
+some-there [] e = let z : _≡_ {A = ℕ} 0 1 = cc in absurd (omega arith)
+some-there (zero ∷ t) e = let (i, h, k) = some-there t e in (suc i, omega arith, k)
+some-there (suc b ∷ t) e = (0, omega arith, omega arith)
+
+zero-there : (t : List ℕ) (i : ℕ) → allZero t ≡ true → getD t i 0 ≡ 0
+zero-there [] i e = refl
+zero-there (b ∷ t) zero e = eqb-true b 0 (and-eq-true-iff (eqb b 0) (allZero t) .0 e .0)
+zero-there (b ∷ t) (suc i) e = zero-there t i (and-eq-true-iff (eqb b 0) (allZero t) .0 e .1)
+
+pub non-zero : (s : List ℕ) (at : ℕ) → allZero (drop at s) ≡ false → NonZeroFrom s at
+non-zero s at e =
+    let (i, h, k) = some-there (drop at s) e in
+    (at + i, omega arith, omega (arith, length-drop at s), rw getD-drop at k)
+
+pub not-all-zero : (s : List ℕ) (at : ℕ) → NonZeroFrom s at → allZero (drop at s) ≡ false
+not-all-zero s at (i, h, k, l) = not-true _ λ e.
+    let f : at + (i - at) ≡ i = omega arith in
+    let z : getD s i 0 ≡ 0 = rw (← f, ← getD-drop at s (i - at) 0) (zero-there (drop at s) (i - at) e) in
+    omega arith
 
 pub all-cond : {S A : Type 0} {P : A → S → Type 0} (b : Bool) (x y : Outcome S A) → (b ≡ true → All P x) → (b ≡ false → All P y) → All P (cond b x y)
 all-cond true x y f g = f refl
@@ -184,10 +207,6 @@ module _ (s : List ℕ) (at : ℕ) (h : at ≤ length s) where
       from-entry m = framing-next s at h ∙ boundary-entry s (framingFrom s) at z n e k l m
 
 -- A length that is not 0 is not all zero
-pub not-true : (b : Bool) → (b ≡ true → ⊥) → b ≡ false
-not-true true f = absurd (f refl)
-not-true false f = refl
-
 pub four-not-zero : (n : ℕ) (r : List ℕ) → 1 ≤ n → n < 4294967296 → allZero (four n ++ r) ≡ false
 four-not-zero n r h k = not-true _ λ e.
     let (a, e₁) = and-eq-true-iff _ _ .0 e in

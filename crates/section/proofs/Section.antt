@@ -11,9 +11,10 @@ use borrow.Author.Tests.{leb-true, eqb-true, le-leb}
 use Rattle.layout.specs.Written.{four, bytes}
 use Rattle.layout.specs.Entities.{Entity}
 use Rattle.layout.specs.Reading.{Outcome, ok, read}
-use Rattle.layout.specs.Alone.{limit}
+use Rattle.layout.specs.Answers.{limit}
 use Rattle.layout.specs.Theorems.{Bytes}
 use Rattle.layout.proofs.Walk.{All, given, refused, all-bind, all-need, all-ok, all-when}
+use Rattle.layout.proofs.BadReads.{not-true}
 use Rattle.layout.proofs.InBytes.{behind, read-complete, read-sound}
 use Rattle.section.specs.Derivation.{Item, sentinel, entity, Derivation, sentinelBytes, payload, entries, ProperItem, ProperItems, Placed, placed, entitiesOf}
 use Rattle.section.specs.Framing.{framing}
@@ -22,7 +23,7 @@ use Rattle.section.specs.Demand3.{Good}
 use Rattle.section.specs.Theorems.{Section-exact}
 use Rattle.section.proofs.Derivation.{payload-some, payload-small, kind-some, append-parts}
 use Rattle.section.specs.Refusals.{framed, Framable}
-use Rattle.section.proofs.Framing.{partAt, partsOf, all-cond, not-true, framing-complete, framing-sound}
+use Rattle.section.proofs.Framing.{partAt, partsOf, all-cond, framing-complete, framing-sound}
 
 pub same-sound : (x y : List ℕ) → same x y ≡ true → x ≡ y
 same-sound [] [] e = refl
@@ -42,6 +43,9 @@ pub part-there : (s : List ℕ) (a : ℕ) (x r : List ℕ) → 1 ≤ length x �
 part-there s a x r h e =
     let k : a ≤ length s = omega (arith, ap length e, length-append x r, length-drop a s) in
     rw (take-add a (length x) s, drop-at (take a s) _ a (length-take-le a s k), e) (take-append-seam x r)
+
+pub take-length-there : (s : List ℕ) (a : ℕ) (x r : List ℕ) → 1 ≤ length x → drop a s ≡ x ++ r → length (take (a + length x) s) ≡ a + length x
+take-length-there s a x r h e = length-take-le (a + length x) s (omega (arith, ap length e, length-append x r, length-drop a s))
 
 pub bytes-take : (n : ℕ) (s : List ℕ) → Bytes s → Bytes (take n s)
 bytes-take n s u i h =

@@ -13,9 +13,9 @@ use Rattle.layout.specs.Theorems.{Bytes}
 use Rattle.layout.proofs.InBytes.{behind, four-sound, four-complete}
 use Rattle.leaf.specs.State.{lengthAt}
 use Rattle.leaf.proofs.Leaves.{length-there}
+use Rattle.layout.proofs.BadReads.{not-true}
 use Rattle.section.specs.Derivation.{sentinelBytes}
 use Rattle.section.specs.Section.{same}
-use Rattle.section.proofs.Framing.{not-true}
 use Rattle.section.proofs.Section.{same-sound}
 use Rattle.section.proofs.Bytes.{byte-there, same-not}
 

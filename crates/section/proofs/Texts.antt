@@ -33,31 +33,31 @@ meets-each F (A then B) v p = each-append F (leaves A (v .0)) (leaves B (v .1)) 
 meets-each F (case srt A j B) v p = (p .0, each-append F (leaves A (v .1)) (leaves (B (v .0)) (v .2)) (meets-each F A (v .1) (p .1)) (meets-each F (B (v .0)) (v .2) (p .3)))
 meets-each F (check A j) v p = meets-each F A v (p .0)
 
--- An entity stands where it is placed
-record Stands (s : List ℕ) (e : Placed) : Type 0 where
-  fits : Each Fits (e .leaves)
+-- An entity whose leaves stand where it is placed
+record PlacedIn (s : List ℕ) (e : Placed) : Type 0 where
+  fits : Each Fits (e .content)
   rest : List ℕ
-  there : drop (e .at) s ≡ bytesOf (e .leaves) ++ rest
+  there : drop (e .at) s ≡ bytesOf (e .content) ++ rest
 
-stands-one : (s : List ℕ) (at : ℕ) (v : Value Entity) (r : List ℕ) → Proper Entity v → drop (at + 4) s ≡ bytes Entity v ++ r → Stands s (record { at = at + 4; leaves = leaves Entity v })
-stands-one s at v r p d = record { fits = meets-each Fits Entity v p; rest = r; there = d }
+placed-one : (s : List ℕ) (at : ℕ) (v : Value Entity) (r : List ℕ) → Proper Entity v → drop (at + 4) s ≡ bytes Entity v ++ r → PlacedIn s (record { at = at + 4; content = leaves Entity v })
+placed-one s at v r p d = record { fits = meets-each Fits Entity v p; rest = r; there = d }
 
-stands : (s : List ℕ) (at : ℕ) (is : List Item) (r : List ℕ) → ProperItems is → drop at s ≡ entries is ++ r → (before after : List Placed) (e : Placed) → placed at is ≡ before ++ (e ∷ after) → Stands s e
-stands s at [] r p d [] after e q = let z : _≡_ {A = ℕ} 0 1 = cc in absurd (omega arith)
-stands s at [] r p d (b ∷ before) after e q = let z : _≡_ {A = ℕ} 0 1 = cc in absurd (omega arith)
-stands s at (sentinel ∷ is) r p d before after e q = stands s (at + 4 + length sentinelBytes) is r (p .1) (behind s (at + 4) sentinelBytes (entries is ++ r) (behind s at (four (length sentinelBytes)) _ d)) before after e q
-stands s at (entity v ∷ is) r p d [] after e q =
+placed-in : (s : List ℕ) (at : ℕ) (is : List Item) (r : List ℕ) → ProperItems is → drop at s ≡ entries is ++ r → (before after : List Placed) (e : Placed) → placed at is ≡ before ++ (e ∷ after) → PlacedIn s e
+placed-in s at [] r p d [] after e q = let z : _≡_ {A = ℕ} 0 1 = cc in absurd (omega arith)
+placed-in s at [] r p d (b ∷ before) after e q = let z : _≡_ {A = ℕ} 0 1 = cc in absurd (omega arith)
+placed-in s at (sentinel ∷ is) r p d before after e q = placed-in s (at + 4 + length sentinelBytes) is r (p .1) (behind s (at + 4) sentinelBytes (entries is ++ r) (behind s at (four (length sentinelBytes)) _ d)) before after e q
+placed-in s at (entity v ∷ is) r p d [] after e q =
     let g : drop at s ≡ four (length (bytes Entity v)) ++ (bytes Entity v ++ (entries is ++ r)) = simp append-assoc at d in
-    subst (Stands s) (head-eq-of-cons-eq q) (stands-one s at v (entries is ++ r) (p .0 .0) (behind s at (four (length (bytes Entity v))) _ g))
-stands s at (entity v ∷ is) r p d (b ∷ before) after e q =
+    subst (PlacedIn s) (head-eq-of-cons-eq q) (placed-one s at v (entries is ++ r) (p .0 .0) (behind s at (four (length (bytes Entity v))) _ g))
+placed-in s at (entity v ∷ is) r p d (b ∷ before) after e q =
     let g : drop at s ≡ four (length (bytes Entity v)) ++ (bytes Entity v ++ (entries is ++ r)) = simp append-assoc at d in
-    stands s (at + 4 + length (bytes Entity v)) is r (p .1) (behind s (at + 4) (bytes Entity v) (entries is ++ r) (behind s at (four (length (bytes Entity v))) _ g)) before after e (tail-eq-of-cons-eq q)
+    placed-in s (at + 4 + length (bytes Entity v)) is r (p .1) (behind s (at + 4) (bytes Entity v) (entries is ++ r) (behind s at (four (length (bytes Entity v))) _ g)) before after e (tail-eq-of-cons-eq q)
 
 pub text-found : Text-found
 text-found s d g before after e q ls ms t k row w =
-    let h = stands s 0 (d .items) (replicate (d .padding) 0) (g .by .proper) (sym (g .by .derives)) before after e q in
+    let h = placed-in s 0 (d .items) (replicate (d .padding) 0) (g .by .proper) (sym (g .by .derives)) before after e q in
     let f : Fits (string t) = each-middle Fits ls (string t) ms (rw k at (h .fits)) in
-    let b : bytesOf (e .leaves) ≡ bytesOf ls ++ (bytesOf (string t ∷ []) ++ bytesOf ms) = rw (k, bytesOf-append ls (string t ∷ ms)) (ap (λ (x : List ℕ). bytesOf ls ++ x) (bytesOf-append (string t ∷ []) ms)) in
+    let b : bytesOf (e .content) ≡ bytesOf ls ++ (bytesOf (string t ∷ []) ++ bytesOf ms) = rw (k, bytesOf-append ls (string t ∷ ms)) (ap (λ (x : List ℕ). bytesOf ls ++ x) (bytesOf-append (string t ∷ []) ms)) in
     let i : drop (e .at) s ≡ bytesOf ls ++ (bytesOf (string t ∷ []) ++ (bytesOf ms ++ h .rest)) = h .there ∙ rw (b, append-assoc, append-assoc) in
     let j : drop (e .at + length (bytesOf ls)) s ≡ bytesOf (string t ∷ []) ++ (bytesOf ms ++ h .rest) = behind s (e .at) (bytesOf ls) _ i in
     row-part s (g .small) (e .at + length (bytesOf ls)) t _ (read-complete text t s (e .at + length (bytesOf ls)) (bytesOf ms ++ h .rest) f j) row w

@@ -1,8 +1,14 @@
 -- What the framing alone answers.
-use Prim.Native.Nat.{ℕ}
+use Prim.Native.Nat.{ℕ, _≤_}
 use mathlib.Core.List.{List}
-use Rattle.layout.specs.Reading.{Outcome, ok, refuse, _>>=_}
+use mathlib.Core.Logic.{_↔_}
+use mathlib.Core.Path.{_≡_}
+use lib.Dec.{leb}
+use lib.ListN.{length}
+use Rattle.layout.specs.Reading.{Outcome, ok, refuse, _>>=_, need}
+use Rattle.layout.specs.Answers.{limit}
 use Rattle.section.specs.Framing.{framing}
+use Rattle.section.specs.Refusals.{FramingRefusal, WholeFraming}
 use Rattle.section.specs.declared.Framed.the-variants.{Whole, Refused}
 use Rattle.section.specs.declared.Framed as declared
 
@@ -11,6 +17,17 @@ abbrev pub framingOf : declared.Framed → Outcome ℕ (Unit {0})
 framingOf (Whole end) = ok tt end
 framingOf (Refused number place) = refuse number place
 
--- Where the framing ends, without the parts that it finds
+-- Where the framing ends, without the parts that it finds: 2 to 4
 unfoldable pub framingEnd : List ℕ → Outcome ℕ (Unit {0})
 framingEnd s = framing s >>= λ parts end. ok tt end
+
+-- The same of bytes that are not too many: 1 comes first
+unfoldable pub entryPayloads : List ℕ → Outcome ℕ (Unit {0})
+entryPayloads s = need (leb (length s) limit) 1 0 (framingEnd s)
+
+-- What is promised of the framing alone, in terms of entries and of bad boundaries
+pub record ExactFraming (s : List ℕ) (o : Outcome ℕ (Unit {0})) : Type 0 where
+  -- where the padding begins, exactly if there are not too many bytes, and they are entries and padding
+  pub whole : (end : ℕ) → (o ≡ ok tt end) ↔ (length s ≤ limit) × WholeFraming s end
+  -- each refusal exactly under its condition
+  pub refuses : (n p : ℕ) → (o ≡ refuse n p) ↔ FramingRefusal s n p

@@ -2,8 +2,8 @@
 use Prim.Native.Nat.{ℕ, _+_, _<_}
 use mathlib.Core.List.{List, [], _∷_, _++_}
 use lib.ListN.{length, replicate}
-use Rattle.layout.specs.Layout.{Kind, Tag, Flag, Number, Count, Leaf, plain, string, Value, leaves, Proper}
-use Rattle.layout.specs.Written.{four, bytes, rowsFrom}
+use Rattle.layout.specs.Layout.{Leaf, plain, string, Value, leaves, Proper}
+use Rattle.layout.specs.Written.{four, width, bytes, rowsFrom}
 use Rattle.layout.specs.Entities.{Entity}
 use Rattle.layout.specs.Answers.{Given}
 
@@ -52,27 +52,27 @@ ProperItems (i ∷ is) = ProperItem i × ProperItems is
 -- An entity where it stands: the place of its payload, and its leaves
 pub record Placed : Type 0 where
   pub at : ℕ
-  pub leaves : List Leaf
+  pub content : List Leaf
 
 -- The entities among items whose first entry begins at a place. A payload begins behind the 4 bytes of its length; a sentinel is no entity
 abbrev pub placed : ℕ → List Item → List Placed
 placed at [] = []
 placed at (sentinel ∷ is) = placed (at + 4 + length sentinelBytes) is
-placed at (entity v ∷ is) = record { at = at + 4; leaves = leaves Entity v } ∷ placed (at + 4 + length (bytes Entity v)) is
+placed at (entity v ∷ is) = record { at = at + 4; content = leaves Entity v } ∷ placed (at + 4 + length (bytes Entity v)) is
 
 -- The number of the leaves of entities
-abbrev pub leafCount : List Placed → ℕ
-leafCount [] = 0
-leafCount (e ∷ es) = length (e .leaves) + leafCount es
+abbrev pub totalLeaves : List Placed → ℕ
+totalLeaves [] = 0
+totalLeaves (e ∷ es) = length (e .content) + totalLeaves es
 
 -- The rows of the leaves of entities
 abbrev pub rowsOf : List Placed → List ℕ
 rowsOf [] = []
-rowsOf (e ∷ es) = rowsFrom (e .at) (e .leaves) ++ rowsOf es
+rowsOf (e ∷ es) = rowsFrom (e .at) (e .content) ++ rowsOf es
 
 -- What entities give: their number, the number of their leaves, and their rows
 abbrev pub givenOf : List Placed → Given
-givenOf es = record { entities = length es; leaves = leafCount es; rows = rowsOf es }
+givenOf es = record { entities = length es; leafCount = totalLeaves es; rows = rowsOf es }
 
 -- The entities of a derivation, with places from the section's start
 abbrev pub entitiesOf : Derivation → List Placed
@@ -86,11 +86,7 @@ sentinels (entity v ∷ is) = sentinels is
 
 -- The bytes that a leaf takes
 abbrev pub leafSize : Leaf → ℕ
-leafSize (plain Kind n) = 1
-leafSize (plain Tag n) = 1
-leafSize (plain Flag n) = 1
-leafSize (plain Number n) = 4
-leafSize (plain Count n) = 4
+leafSize (plain srt n) = width srt
 leafSize (string t) = 4 + length t
 
 -- The bytes that leaves take
@@ -101,4 +97,4 @@ leafSizes (x ∷ ls) = leafSize x + leafSizes ls
 -- The bytes that the leaves of entities take
 abbrev pub entitySizes : List Placed → ℕ
 entitySizes [] = 0
-entitySizes (e ∷ es) = leafSizes (e .leaves) + entitySizes es
+entitySizes (e ∷ es) = leafSizes (e .content) + entitySizes es

@@ -7,7 +7,7 @@ use lib.Dec.{ltb, leb}
 use lib.ListN.{length, take, drop}
 use Rattle.layout.specs.Reading.{Outcome, ok, refuse, _>>=_}
 use Rattle.layout.specs.Entities.{Entity}
-use Rattle.leaf.specs.State.{State, state, start, seek, lengthAt, refusedOnce}
+use Rattle.leaf.specs.State.{ReadState, readState, newCursor, seek, lengthAt, refusedOnce}
 use Rattle.leaf.specs.Run.{run}
 use Rattle.leaf.specs.Theorems.{arriveAll}
 use Rattle.leaf.specs.declared.Cursor.{Cursor}
@@ -19,20 +19,20 @@ use Rattle.section.specs.declared.Progress.{Progress}
 
 -- What is read so far, with the table
 pub record Stage : Type 0 where
-  pub state : State
+  pub state : ReadState
   pub entities : ℕ
 
 -- The two together
-abbrev pub stage : State → (entities : ℕ) → Stage
+abbrev pub stage : ReadState → (entities : ℕ) → Stage
 stage st n = record { state = st; entities = n }
 
 -- What the code has read so far, with its table
 abbrev pub staged : Progress → List ℕ → Stage
-staged p table = stage (state (p .cursor) table) (p .entities)
+staged p table = stage (readState (p .cursor) table) (p .entities)
 
 -- A state at another place
-abbrev pub seeks : (at : ℕ) → State → State
-seeks at st = state (seek at (st .cursor)) (st .table)
+abbrev pub seeks : (at : ℕ) → ReadState → ReadState
+seeks at st = readState (seek at (st .cursor)) (st .table)
 
 -- 12 where a cursor stands, if the payload goes on
 abbrev pub closed : (end : ℕ) → Cursor → Cursor
@@ -44,7 +44,7 @@ entered s begin end g =
     let r = run Entity (take end s) (seeks begin (g .state)) in
     cond (same (drop begin (take end s)) sentinelBytes)
     (stage (seeks end (g .state)) (g .entities))
-    (stage (state (closed end (r .cursor)) (r .table)) (g .entities + 1))
+    (stage (readState (closed end (r .cursor)) (r .table)) (g .entities + 1))
 
 -- What the entry where a stage stands makes of it
 unfoldable pub pastEntry : List ℕ → Stage → Stage
@@ -53,13 +53,13 @@ pastEntry s g =
     entered s (at + 4) (at + 4 + lengthAt s at) g
 
 -- Entities that are read one after the other
-abbrev pub arriveEntities : List Placed → State → State
+abbrev pub arriveEntities : List Placed → ReadState → ReadState
 arriveEntities [] st = st
-arriveEntities (e ∷ es) st = arriveEntities es (arriveAll (e .leaves) (seeks (e .at) st))
+arriveEntities (e ∷ es) st = arriveEntities es (arriveAll (e .content) (seeks (e .at) st))
 
 -- A stage at the padding, by the outcome of a section's reading: all entities are read, with a table from the start; or it is refused so
 pub data Reads (table : List ℕ) (end : ℕ) (g : Stage) : Outcome ℕ (List Placed) → Type 0 where
-  reads : {es : List Placed} {at : ℕ} → g ≡ stage (seeks end (arriveEntities es (state start table))) (length es) → Reads table end g (ok es at)
+  reads : {es : List Placed} {at : ℕ} → g ≡ stage (seeks end (arriveEntities es (readState newCursor table))) (length es) → Reads table end g (ok es at)
   stops : {n p : ℕ} → (g .state .cursor .refusal ≡ n) × (n ≡ 0 → ⊥) × (g .state .cursor .place ≡ p) × (length (g .state .table) ≡ length table) → Reads table end g (refuse n p)
 
 -- The framing from a boundary on. The bound on the boundaries plays no part

@@ -7,8 +7,8 @@ use lib.ListN.{length, take, drop}
 use Rattle.layout.specs.Layout.{Leaf}
 use Rattle.layout.specs.Entities.{Entity}
 use Rattle.layout.specs.Reading.{Outcome, ok, _>>=_, need, read}
-use Rattle.layout.specs.Answers.{Result, Given, tell}
-use Rattle.layout.specs.Alone.{limit}
+use Rattle.layout.specs.Answers.{limit, Result, Given}
+use Rattle.layout.specs.ReadAlone.{tell}
 use Rattle.section.specs.Derivation.{Placed, sentinelBytes, givenOf}
 use Rattle.section.specs.Framing.{Part, framing}
 
@@ -21,7 +21,7 @@ same (x ∷ xs) (y ∷ ys) = eqb x y && same xs ys
 
 -- The leaves of an entity that ends with its payload; else 12, at the first byte that remains
 abbrev pub ended : Part → List Leaf → (end : ℕ) → Outcome ℕ (List Placed)
-ended p ls end = need (leb (p .end) end) 12 end (ok (record { at = p .begin; leaves = ls } ∷ []) end)
+ended p ls end = need (leb (p .end) end) 12 end (ok (record { at = p .begin; content = ls } ∷ []) end)
 
 -- One entity, by 5 to 11, then 12
 unfoldable pub readEntity : List ℕ → Part → Outcome ℕ (List Placed)

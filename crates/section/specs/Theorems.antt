@@ -7,14 +7,14 @@ use lib.ListN.{length, replicate}
 use Rattle.layout.specs.Layout.{Leaf, string}
 use Rattle.layout.specs.Written.{bytesOf, rowAt}
 use Rattle.layout.specs.Reading.{ok, refuse}
-use Rattle.layout.specs.Answers.{Result}
-use Rattle.layout.specs.Alone.{limit}
-use Rattle.layout.specs.Theorems.{Bytes}
+use Rattle.layout.specs.Answers.{limit, Result}
+use Rattle.layout.specs.Theorems.{Bytes, Told}
 use Rattle.parts.specs.declared.Row.{Row}
 use Rattle.parts.specs.Parts.{rowText, partOf}
-use Rattle.section.specs.Derivation.{Item, sentinel, Placed, Derivation, entries, derive, placed, leafCount, entitiesOf, sentinels, entitySizes}
+use Rattle.section.specs.Derivation.{Item, sentinel, Placed, Derivation, entries, derive, placed, totalLeaves, entitiesOf, sentinels, entitySizes}
 use Rattle.section.specs.Section.{readSection, reading}
-use Rattle.section.specs.Refusals.{Refusal}
+use Rattle.section.specs.Answers.{entryPayloads, ExactFraming}
+use Rattle.section.specs.Refusals.{SectionRefusal}
 use Rattle.section.specs.Demand3.{DerivedBy, Good, Demand3}
 
 -- A section is accepted exactly if it is derived, with the entities of its derivation: `section-exact` in Section.antt
@@ -25,7 +25,15 @@ Section-exact =
 
 -- A section is refused exactly under the condition of its refusal: `refusal-exact` in Refusals.antt
 abbrev pub Refusal-exact : Type 0
-Refusal-exact = (s : List ℕ) → Bytes s → (n p : ℕ) → (readSection s ≡ refuse n p) ↔ Refusal s n p
+Refusal-exact = (s : List ℕ) → Bytes s → (n p : ℕ) → (readSection s ≡ refuse n p) ↔ SectionRefusal s n p
+
+-- The framing alone is as its promise says: `exact-framing` in Refusals.antt
+abbrev pub Exact-framing : Type 0
+Exact-framing = (s : List ℕ) → Bytes s → ExactFraming s (entryPayloads s)
+
+-- No section has two refusals: `refusal-unique` in Refusals.antt
+abbrev pub Refusal-unique : Type 0
+Refusal-unique = (s : List ℕ) → Bytes s → (n p m q : ℕ) → SectionRefusal s n p → SectionRefusal s m q → (n ≡ m) × (p ≡ q)
 
 -- No section has two derivations: `derivation-unique` in Derivation.antt
 abbrev pub Derivation-unique : Type 0
@@ -39,7 +47,7 @@ Byte-sum =
 
 -- Rows never outnumber the section's bytes: `rows-bound` in Derivation.antt
 abbrev pub Rows-bound : Type 0
-Rows-bound = (d : Derivation) → leafCount (entitiesOf d) ≤ length (derive d)
+Rows-bound = (d : Derivation) → totalLeaves (entitiesOf d) ≤ length (derive d)
 
 -- The reading meets demand 3: `reading-meets` in Demand3.antt
 abbrev pub Reading-meets : Type 0
@@ -48,6 +56,10 @@ Reading-meets = (s : List ℕ) → Bytes s → (table : List ℕ) → Demand3 s 
 -- And nothing else does: `reading-only` in Demand3.antt
 abbrev pub Reading-only : Type 0
 Reading-only = (s : List ℕ) → Bytes s → (table : List ℕ) (r : Result) → Demand3 s table r → r ≡ reading s table
+
+-- Its answer accepts exactly if the number is 0: `reading-told` in Demand3.antt
+abbrev pub Reading-told : Type 0
+Reading-told = (s : List ℕ) → Bytes s → (table : List ℕ) → Told (reading s table .answer)
 
 -- What stood in the table before plays no part, but for its length: `table-free` in Demand3.antt
 abbrev pub Table-free : Type 0
@@ -61,7 +73,7 @@ Padding-free =
 
 -- An entity that stands so many bytes further on
 abbrev pub movedBy : ℕ → Placed → Placed
-movedBy n e = record { at = n + e .at; leaves = e .leaves }
+movedBy n e = record { at = n + e .at; content = e .content }
 
 -- A sentinel is no entity: those before it stay as they are, and those after it move on by its 13 bytes: `sentinel-free` in Derivation.antt
 abbrev pub Sentinel-free : Type 0
@@ -75,6 +87,6 @@ Sentinel-free =
 abbrev pub Text-found : Type 0
 Text-found =
     (s : List ℕ) (d : Derivation) → Good s d → (before after : List Placed) (e : Placed) → entitiesOf d ≡ before ++ (e ∷ after)
-    → (ls ms : List Leaf) (t : List ℕ) → e .leaves ≡ ls ++ (string t ∷ ms)
+    → (ls ms : List Leaf) (t : List ℕ) → e .content ≡ ls ++ (string t ∷ ms)
     → (row : Row) → row .sort ∷ row .offset ∷ row .value ∷ [] ≡ rowAt (e .at + length (bytesOf ls)) (string t)
     → partOf s (rowText s row) ≡ t

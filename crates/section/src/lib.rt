@@ -5,14 +5,14 @@ ghost use Prim.Native.Nat.{_+_, _≤_};
 ghost use mathlib.Core.Bool.{_&&_};
 ghost use mathlib.Core.Path.{_≡_};
 ghost use lib.ListN.{length, take, drop};
-ghost use Rattle.layout.specs.Alone.{limit};
+ghost use Rattle.layout.specs.Answers.{limit};
 ghost use Rattle.layout.specs.Theorems.{Bytes};
 ghost use Rattle.leaf.specs.State.{lengthAt};
 ghost use Rattle.leaf.specs.Finish.{resultOf};
 ghost use Rattle.section.specs.Derivation.{sentinelBytes};
 ghost use Rattle.section.specs.Framing.{allZero};
-ghost use Rattle.section.specs.Answers.{framingOf, framingEnd};
-ghost use Rattle.section.specs.Section.{same, readSection, reading};
+ghost use Rattle.section.specs.Answers.{framingOf, framingEnd, entryPayloads, ExactFraming};
+ghost use Rattle.section.specs.Section.{same, reading};
 ghost use Rattle.section.specs.Demand3.{Demand3};
 ghost use Rattle.section.specs.Private.{staged, closed, pastEntry, entryEnd, Walked, Walks};
 
@@ -78,10 +78,17 @@ fn zeros(s: &[u8], a: usize, e: usize) -> bool
     bits == 0
 }
 
-// The framing, by refusals 2 to 4.
+// The framing alone, by refusals 1 to 4.
 pub fn entry_payloads(section: &[u8]) -> Framed
-    ensures { λ r. ⌜ framingOf r ≡ framingEnd (now (section .entry)) ⌝ }
+    ensures { λ r. ⌜ framingOf r ≡ entryPayloads (now (section .entry)) ⌝ }
+    ensures { λ r. ⌜ ExactFraming (now (section .entry)) (framingOf r) ⌝ }
 {
+    if leaf::LIMIT < section.len() {
+        return Framed::Refused {
+            number: 1,
+            place: 0,
+        };
+    }
     framing_from(section, 0)
 }
 
@@ -233,8 +240,10 @@ fn read_entries(s: &[u8], t: &mut [u32]) -> Walk
     Walk { progress: p, at }
 }
 
-// The whole reading. On acceptance the table has the rows, then only 0; after a refusal it is all 0. The entries are read as they
-// are found; what they come to counts only if the framing behind them is good too.
+// The whole reading. On acceptance the table has the rows, then only 0; after a refusal it is all 0. The format has the whole
+// framing checked before any payload is read. Here, in one pass, the entries are read as they are found, and the framing behind
+// them is looked at afterwards: if it is refused, that is the answer, whatever the entries came to. The answer is proved to be
+// the same.
 pub fn decode_entities(section: &[u8], table: &mut [u32]) -> Answer
     ensures { λ r. ⌜ resultOf r (now (table .exit)) ≡ reading (now (section .entry)) (now (table .entry)) ⌝ }
     ensures { λ r. ⌜ Demand3 (now (section .entry)) (now (table .entry)) (resultOf r (now (table .exit))) ⌝ }

@@ -4,7 +4,6 @@ use mathlib.Core.Bool.{cond}
 use lib.Dec.{ltb}
 use Rattle.layout.specs.Answers.{Answer}
 use Rattle.tally.specs.declared.Tally.{Tally}
-use Rattle.layout.specs.Answers as answers
 
 -- Where a count stops
 abbrev pub most : ℕ
@@ -15,10 +14,12 @@ abbrev pub oneMore : ℕ → ℕ
 oneMore n = cond (ltb n most) (n + 1) most
 
 -- A tally of no readings
-abbrev pub none : Tally
-none = record { accepted = 0; refused = 0 }
+abbrev pub noReadings : Tally
+noReadings = record { accepted = 0; refused = 0 }
 
 -- A tally with one more answer, which counts as accepted or as refused
 abbrev pub tallied : Tally → Answer → Tally
-tallied t (answers.accepted entities rows) = record { accepted = oneMore (t .accepted); refused = t .refused }
-tallied t (answers.refused number place) = record { accepted = t .accepted; refused = oneMore (t .refused) }
+tallied t a =
+    cond (a .accepts)
+    (record { accepted = oneMore (t .accepted); refused = t .refused })
+    (record { accepted = t .accepted; refused = oneMore (t .refused) })

@@ -4,7 +4,7 @@ ghost use mathlib.Core.Path.{_≡_};
 ghost use Rattle.leaf.specs.Finish.{answerOf, resultOf};
 ghost use Rattle.section.specs.Section.{reading};
 ghost use Rattle.section.specs.Demand3.{Demand3};
-ghost use Rattle.tally.specs.Tally.{oneMore, none, tallied};
+ghost use Rattle.tally.specs.Tally.{oneMore, noReadings, tallied};
 
 // Where a count stops.
 const MOST: u32 = 4294967295;
@@ -24,7 +24,7 @@ pub struct Tallied {
 impl Tally {
     // A tally of no readings.
     pub fn new() -> Tally
-        ensures { λ r. ⌜ r ≡ none ⌝ }
+        ensures { λ r. ⌜ r ≡ noReadings ⌝ }
     {
         Tally {
             accepted: 0,

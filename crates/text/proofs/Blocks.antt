@@ -9,8 +9,8 @@ use lib.Dec.{ltb, eqb}
 use lib.ListN.{length, getD, take}
 use lib.Seq.{take-length}
 use borrow.Author.Tests.{ltb-true, ltb-false}
-use Rattle.text.specs.Walk.{State, start, run, accepting, utf8}
-use Rattle.text.specs.Private.{code, Walks, Ascii}
+use Rattle.text.specs.Walk.{State, start, wantedAfter, accepting, utf8}
+use Rattle.text.specs.Private.{code, Reaches, Ascii}
 use Rattle.text.proofs.Codes.{run-snoc, code-injective, code-accepting}
 use Rattle.text.proofs.Exact.{ascii-step}
 
@@ -23,28 +23,28 @@ ascii-join s a m b e h f g k l u = go (ltb k m) refl
     go false t = g k (omega (arith, ltb-false k m t)) u
 
 -- Where nothing is wanted before ASCII, nothing is wanted after it
-ascii-steps : (s : List ℕ) (p : State) (a d : ℕ) → a + d ≤ length s → Ascii s a (a + d) → run p (take a s) ≡ start → run p (take (a + d) s) ≡ start
+ascii-steps : (s : List ℕ) (p : State) (a d : ℕ) → a + d ≤ length s → Ascii s a (a + d) → wantedAfter p (take a s) ≡ start → wantedAfter p (take (a + d) s) ≡ start
 ascii-steps s p a zero h f q = rw add-zero q
 ascii-steps s p a (suc d) h f q =
     let n : a + suc d ≡ a + d + 1 = omega arith in
     rw (n, run-snoc p s (a + d) (omega arith), ascii-steps s p a d (omega arith) (λ k l u. f k l (omega arith)) q)
     (ascii-step (getD s (a + d) 0) (f (a + d) (omega arith) (omega arith)))
 
-pub ascii-runs : (s : List ℕ) (p : State) (a e : ℕ) → a ≤ e → e ≤ length s → Ascii s a e → run p (take a s) ≡ start → run p (take e s) ≡ start
+pub ascii-runs : (s : List ℕ) (p : State) (a e : ℕ) → a ≤ e → e ≤ length s → Ascii s a e → wantedAfter p (take a s) ≡ start → wantedAfter p (take e s) ≡ start
 ascii-runs s p a e h l f q =
     let n : a + (e - a) ≡ e = omega arith in
     rw n at (ascii-steps s p a (e - a) (omega arith) (rw n f) q)
 
 -- A walk passes over ASCII in the state 0
-pub passed : (s : List ℕ) (a e x : ℕ) → a ≤ e → e ≤ length s → x ≡ 0 → Ascii s a e → Walks s a e x x
-passed s a e x h l z f p q = z ∙ sym (ap code (ascii-runs s p a e h l f (code-injective (run p (take a s)) start (sym q ∙ z))))
+pub passed : (s : List ℕ) (a e x : ℕ) → a ≤ e → e ≤ length s → x ≡ 0 → Ascii s a e → Reaches s a e x x
+passed s a e x h l z f p q = z ∙ sym (ap code (ascii-runs s p a e h l f (code-injective (wantedAfter p (take a s)) start (sym q ∙ z))))
 
 -- A text of ASCII is UTF-8
 pub ascii-utf8 : (s : List ℕ) → Ascii s 0 (length s) → true ≡ utf8 s
 ascii-utf8 s f = sym (ap accepting (rw (take-length s) at (ascii-runs s start 0 (length s) zero-le (omega arith) f refl)))
 
 -- The answer, from a walk that begins after ASCII
-pub answered : (s : List ℕ) (i r : ℕ) → i ≤ length s → Ascii s 0 i → Walks s i (length s) 0 r → eqb r 0 ≡ utf8 s
+pub answered : (s : List ℕ) (i r : ℕ) → i ≤ length s → Ascii s 0 i → Reaches s i (length s) 0 r → eqb r 0 ≡ utf8 s
 answered s i r h f w =
-    let begun : 0 ≡ code (run start (take i s)) = sym (ap code (ascii-runs s start 0 i zero-le h f refl)) in
-    rw (w start begun, take-length s) (code-accepting (run start s))
+    let begun : 0 ≡ code (wantedAfter start (take i s)) = sym (ap code (ascii-runs s start 0 i zero-le h f refl)) in
+    rw (w start begun, take-length s) (code-accepting (wantedAfter start s))

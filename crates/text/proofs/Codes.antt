@@ -8,25 +8,25 @@ use lib.Dec.{ltb, eqb}
 use lib.ListN.{length, take, getD}
 use lib.Seq.{take-suc}
 use borrow.Author.Tests.{ltb-true}
-use Rattle.text.specs.Walk.{State, start, one, two, three, after-E0, after-ED, after-F0, after-F4, wrong, step, run, accepting}
+use Rattle.text.specs.Walk.{State, start, tail-1, tail-2, tail-3, after-E0, after-ED, after-F0, after-F4, failed, step, wantedAfter, accepting}
 use Rattle.text.specs.Private.{code, Encodes}
-use Rattle.text.proofs.Exact.{run-append}
+use Rattle.text.proofs.Exact.{wanted-append}
 
 -- The states in the order of their codes
 abbrev pub numbered : ℕ → State
-numbered n = getD (start ∷ one ∷ two ∷ three ∷ after-E0 ∷ after-ED ∷ after-F0 ∷ after-F4 ∷ wrong ∷ []) n wrong
+numbered n = getD (start ∷ tail-1 ∷ tail-2 ∷ tail-3 ∷ after-E0 ∷ after-ED ∷ after-F0 ∷ after-F4 ∷ failed ∷ []) n failed
 
 -- A code is six times the state's number, fits into six bits, and is 0 for start alone
 codes : (q : State) → (numbered (code q / 6) ≡ q) × (ltb (code q / 6) 9 ≡ true) × (code q % 64 ≡ code q) × (eqb (code q) 0 ≡ accepting q)
 codes start = (refl, refl, refl, refl)
-codes one = (refl, refl, refl, refl)
-codes two = (refl, refl, refl, refl)
-codes three = (refl, refl, refl, refl)
+codes tail-1 = (refl, refl, refl, refl)
+codes tail-2 = (refl, refl, refl, refl)
+codes tail-3 = (refl, refl, refl, refl)
 codes after-E0 = (refl, refl, refl, refl)
 codes after-ED = (refl, refl, refl, refl)
 codes after-F0 = (refl, refl, refl, refl)
 codes after-F4 = (refl, refl, refl, refl)
-codes wrong = (refl, refl, refl, refl)
+codes failed = (refl, refl, refl, refl)
 
 pub numbered-code : (q : State) → numbered (code q / 6) ≡ q
 numbered-code q = codes q .0
@@ -44,11 +44,11 @@ pub code-injective : (p q : State) → code p ≡ code q → p ≡ q
 code-injective p q e = sym (numbered-code p) ∙ ap (λ (n : ℕ). numbered (n / 6)) e ∙ numbered-code q
 
 -- The walk over one byte more
-pub run-snoc : (p : State) (s : List ℕ) (i : ℕ) → i < length s → run p (take (i + 1) s) ≡ step (run p (take i s)) (getD s i 0)
-run-snoc p s i h = rw (add-one, take-suc s i 0, run-append)
+pub run-snoc : (p : State) (s : List ℕ) (i : ℕ) → i < length s → wantedAfter p (take (i + 1) s) ≡ step (wantedAfter p (take i s)) (getD s i 0)
+run-snoc p s i h = rw (add-one, take-suc s i 0, wanted-append)
 
 -- One turn: the row of the byte's class, shifted to the place of the state, begins with the next state
 pub turn : {classes rows : List ℕ} → Encodes classes rows → (s : List ℕ) (i x : ℕ) (p : State) → i < length s → getD s i 0 < 256
-    → x % 64 ≡ code (run p (take i s))
-    → getD rows (getD classes (getD s i 0) 0) 0 / 2 ^ (x % 64) % 64 ≡ code (run p (take (i + 1) s))
-turn d s i x p h b e = rw (e, run-snoc p s i h) (d .right (run p (take i s)) (getD s i 0) b)
+    → x % 64 ≡ code (wantedAfter p (take i s))
+    → getD rows (getD classes (getD s i 0) 0) 0 / 2 ^ (x % 64) % 64 ≡ code (wantedAfter p (take (i + 1) s))
+turn d s i x p h b e = rw (e, run-snoc p s i h) (d .right (wantedAfter p (take i s)) (getD s i 0) b)

@@ -3,15 +3,16 @@ use Prim.Native.Nat.{ℕ, suc, _≤_, _<_}
 use native.Mathlib.Omega.{arith}
 use mathlib.Core.Bool.{Bool, true, false, _&&_, and-eq-true-iff, and-false, false≢true}
 use mathlib.Core.List.{List, [], _∷_, _++_, foldl-append}
-use mathlib.Core.Path.{_≡_, refl, ap, _∙_, subst}
+use mathlib.Core.Logic.{_↔_}
+use mathlib.Core.Path.{_≡_, refl, sym, ap, _∙_, subst}
 use lib.Dec.{leb}
 use borrow.Author.Tests.{le-leb, lt-leb, leb-true}
-use Rattle.text.specs.Rfc3629.{Range, _to_, tail, In, Bytes, done, byte, Char, utf8-1, utf8-2, utf8-3-E0, utf8-3-E1, utf8-3-ED, utf8-3-EE, utf8-4-F0, utf8-4-F1, utf8-4-F4, Utf8, none, more}
-use Rattle.text.specs.Walk.{State, start, one, two, three, after-E0, after-ED, after-F0, after-F4, wrong, Transition, _⇒_, transitions, within, pick, follow, step, run, accepting}
-use Rattle.text.specs.Theorems.{Utf8-exact, Run-append}
+use Rattle.text.specs.Rfc3629.{Range, _to_, tail, In, Sequence, done, byte, Char, utf8-1, utf8-2, utf8-3-E0, utf8-3-E1, utf8-3-ED, utf8-3-EE, utf8-4-F0, utf8-4-F1, utf8-4-F4, Utf8, none, more}
+use Rattle.text.specs.Walk.{State, start, tail-1, tail-2, tail-3, after-E0, after-ED, after-F0, after-F4, failed, Transition, _⇒_, transitions, within, pick, follow, step, wantedAfter, accepting, utf8}
+use Rattle.text.specs.Theorems.{Utf8-exact, Wanted-append}
 
-pub run-append : Run-append
-run-append q l m = foldl-append step q l m
+pub wanted-append : Wanted-append
+wanted-append q l m = foldl-append step q l m
 
 -- A range's test and its meaning
 inside : (r : Range) (b : ℕ) → In r b → within r b ≡ true
@@ -52,14 +53,14 @@ taken n b up (there {y = l to h ⇒ p} {xs = xs} m) i =
 
 transitions-ascend : (q : State) → ascending 0 (transitions q) ≡ true
 transitions-ascend start = refl
-transitions-ascend one = refl
-transitions-ascend two = refl
-transitions-ascend three = refl
+transitions-ascend tail-1 = refl
+transitions-ascend tail-2 = refl
+transitions-ascend tail-3 = refl
 transitions-ascend after-E0 = refl
 transitions-ascend after-ED = refl
 transitions-ascend after-F0 = refl
 transitions-ascend after-F4 = refl
-transitions-ascend wrong = refl
+transitions-ascend failed = refl
 
 -- A byte of a transition's range takes it
 stepped : (q : State) (b : ℕ) {p : State} {r : Range} → Among (r ⇒ p) (transitions q) → In r b → step q b ≡ p
@@ -74,33 +75,33 @@ data Route : State → List Range → Type 0 where
   end : Route start []
   by : {q : State} (p : State) {r : Range} {rs : List Range} → Among (r ⇒ p) (transitions q) → Route p rs → Route q (r ∷ rs)
 
-route-runs : {q : State} {rs : List Range} {c : List ℕ} → Route q rs → Bytes rs c → run q c ≡ start
+route-runs : {q : State} {rs : List Range} {c : List ℕ} → Route q rs → Sequence rs c → wantedAfter q c ≡ start
 route-runs end done = refl
-route-runs (by {q = q} p m w) (byte {b = b} {c = c} i bs) = ap (λ (p : State). run p c) (stepped q b m i) ∙ route-runs w bs
+route-runs (by {q = q} p m w) (byte {b = b} {c = c} i bs) = ap (λ (p : State). wantedAfter p c) (stepped q b m i) ∙ route-runs w bs
 
-route-1 : Route one (tail ∷ [])
+route-1 : Route tail-1 (tail ∷ [])
 route-1 = by start here end
 
-route-2 : Route two (tail ∷ tail ∷ [])
-route-2 = by one here route-1
+route-2 : Route tail-2 (tail ∷ tail ∷ [])
+route-2 = by tail-1 here route-1
 
-route-3 : Route three (tail ∷ tail ∷ tail ∷ [])
-route-3 = by two here route-2
+route-3 : Route tail-3 (tail ∷ tail ∷ tail ∷ [])
+route-3 = by tail-2 here route-2
 
-char-runs : {c : List ℕ} → Char c → run start c ≡ start
+char-runs : {c : List ℕ} → Char c → wantedAfter start c ≡ start
 char-runs (utf8-1 bs) = route-runs (by start here end) bs
-char-runs (utf8-2 bs) = route-runs (by one (search among) route-1) bs
-char-runs (utf8-3-E0 bs) = route-runs (by after-E0 (search among) (by one here route-1)) bs
-char-runs (utf8-3-E1 bs) = route-runs (by two (search among) route-2) bs
-char-runs (utf8-3-ED bs) = route-runs (by after-ED (search among) (by one here route-1)) bs
-char-runs (utf8-3-EE bs) = route-runs (by two (search among depth 9) route-2) bs
-char-runs (utf8-4-F0 bs) = route-runs (by after-F0 (search among depth 9) (by two here route-2)) bs
-char-runs (utf8-4-F1 bs) = route-runs (by three (search among depth 9) route-3) bs
-char-runs (utf8-4-F4 bs) = route-runs (by after-F4 (search among depth 9) (by two here route-2)) bs
+char-runs (utf8-2 bs) = route-runs (by tail-1 (search among) route-1) bs
+char-runs (utf8-3-E0 bs) = route-runs (by after-E0 (search among) (by tail-1 here route-1)) bs
+char-runs (utf8-3-E1 bs) = route-runs (by tail-2 (search among) route-2) bs
+char-runs (utf8-3-ED bs) = route-runs (by after-ED (search among) (by tail-1 here route-1)) bs
+char-runs (utf8-3-EE bs) = route-runs (by tail-2 (search among depth 9) route-2) bs
+char-runs (utf8-4-F0 bs) = route-runs (by after-F0 (search among depth 9) (by tail-2 here route-2)) bs
+char-runs (utf8-4-F1 bs) = route-runs (by tail-3 (search among depth 9) route-3) bs
+char-runs (utf8-4-F4 bs) = route-runs (by after-F4 (search among depth 9) (by tail-2 here route-2)) bs
 
-chars-run : {l : List ℕ} → Utf8 l → run start l ≡ start
+chars-run : {l : List ℕ} → Utf8 l → wantedAfter start l ≡ start
 chars-run none = refl
-chars-run (more {c = c} {l = l} h r) = run-append start c l ∙ ap (λ (q : State). run q l) (char-runs h) ∙ chars-run r
+chars-run (more {c = c} {l = l} h r) = wanted-append start c l ∙ ap (λ (q : State). wantedAfter q l) (char-runs h) ∙ chars-run r
 
 -- The second half: what takes the automaton to start is what the state before it wanted
 
@@ -115,24 +116,24 @@ rest-utf8 (chars u) = u
 -- What a state wants of the bytes that follow
 abbrev Wants : State → List ℕ → Type 0
 Wants start l = Rest [] l
-Wants one l = Rest (tail ∷ []) l
-Wants two l = Rest (tail ∷ tail ∷ []) l
-Wants three l = Rest (tail ∷ tail ∷ tail ∷ []) l
+Wants tail-1 l = Rest (tail ∷ []) l
+Wants tail-2 l = Rest (tail ∷ tail ∷ []) l
+Wants tail-3 l = Rest (tail ∷ tail ∷ tail ∷ []) l
 Wants after-E0 l = Rest (0xA0 to 0xBF ∷ tail ∷ []) l
 Wants after-ED l = Rest (0x80 to 0x9F ∷ tail ∷ []) l
 Wants after-F0 l = Rest (0x90 to 0xBF ∷ tail ∷ tail ∷ []) l
 Wants after-F4 l = Rest (0x80 to 0x8F ∷ tail ∷ tail ∷ []) l
-Wants wrong l = ⊥
+Wants failed l = ⊥
 
 -- The bytes of the ranges apart from the characters after them
-parted : {rs : List Range} {l : List ℕ} → Rest rs l → (c : List ℕ) × (m : List ℕ) × Bytes rs c × Utf8 m × (c ++ m ≡ l)
+parted : {rs : List Range} {l : List ℕ} → Rest rs l → (c : List ℕ) × (m : List ℕ) × Sequence rs c × Utf8 m × (c ++ m ≡ l)
 parted (chars {l = l} u) = ([], l, done, u, refl)
 parted (next {b = b} i w) =
     let p = parted w in
     (b ∷ p .0, p .1, byte i (p .2), p .3, ap (λ (x : List ℕ). b ∷ x) (p .4))
 
 -- A first byte, and the rest of its character after it
-char : (b : ℕ) {rs : List Range} {l : List ℕ} → ((c : List ℕ) → Bytes rs c → Char (b ∷ c)) → Rest rs l → Rest [] (b ∷ l)
+char : (b : ℕ) {rs : List Range} {l : List ℕ} → ((c : List ℕ) → Sequence rs c → Char (b ∷ c)) → Rest rs l → Rest [] (b ∷ l)
 char b k w =
     let p = parted w in
     chars (subst (λ (x : List ℕ). Utf8 (b ∷ x)) (p .4) (more (k (p .0) (p .2)) (p .3)))
@@ -180,14 +181,14 @@ before start b l = (
     ),
   ),
 )
-before one b l = (next, tt)
-before two b l = (next, tt)
-before three b l = (next, tt)
+before tail-1 b l = (next, tt)
+before tail-2 b l = (next, tt)
+before tail-3 b l = (next, tt)
 before after-E0 b l = (next, tt)
 before after-ED b l = (next, tt)
 before after-F0 b l = (next, tt)
 before after-F4 b l = (next, tt)
-before wrong b l = tt
+before failed b l = tt
 
 back : (q : State) (b : ℕ) (l : List ℕ) → Wants (step q b) l → Wants q (b ∷ l)
 unfolding step
@@ -195,18 +196,22 @@ back q b l = followed (transitions q) b l (Wants q (b ∷ l)) (before q b l)
 
 ends : (q : State) → accepting q ≡ true → Wants q []
 ends start e = chars none
-ends one e = absurd (false≢true e)
-ends two e = absurd (false≢true e)
-ends three e = absurd (false≢true e)
+ends tail-1 e = absurd (false≢true e)
+ends tail-2 e = absurd (false≢true e)
+ends tail-3 e = absurd (false≢true e)
 ends after-E0 e = absurd (false≢true e)
 ends after-ED e = absurd (false≢true e)
 ends after-F0 e = absurd (false≢true e)
 ends after-F4 e = absurd (false≢true e)
-ends wrong e = absurd (false≢true e)
+ends failed e = absurd (false≢true e)
 
-wanted : (l : List ℕ) (q : State) → accepting (run q l) ≡ true → Wants q l
+wanted : (l : List ℕ) (q : State) → accepting (wantedAfter q l) ≡ true → Wants q l
 wanted [] q e = ends q e
 wanted (b ∷ l) q e = back q b l (wanted l (step q b) e)
 
 pub utf8-exact : Utf8-exact
 utf8-exact l = (λ e. rest-utf8 (wanted l start e), λ u. ap accepting (chars-run u))
+
+-- What answers by the test answers by the grammar
+pub both : (l : List ℕ) {b : Bool} → b ≡ utf8 l → (b ≡ utf8 l) × ((b ≡ true) ↔ Utf8 l)
+both l e = (e, (λ h. utf8-exact l .0 (sym e ∙ h), λ h. e ∙ utf8-exact l .1 h))

@@ -3,19 +3,19 @@ use mathlib.Core.List.{List}
 use mathlib.Core.Path.{_≡_}
 use Prim.Native.Nat.{ℕ, _≤_, _<_, _/_, _%_, _^_}
 use lib.ListN.{getD, take}
-use Rattle.text.specs.Walk.{State, start, one, two, three, after-E0, after-ED, after-F0, after-F4, wrong, step, run}
+use Rattle.text.specs.Walk.{State, start, tail-1, tail-2, tail-3, after-E0, after-ED, after-F0, after-F4, failed, step, wantedAfter}
 
 -- A state as the walk holds it: the place of its 6 bits in a row of the table
 abbrev pub code : State → ℕ
 code start = 0
-code one = 6
-code two = 12
-code three = 18
+code tail-1 = 6
+code tail-2 = 12
+code tail-3 = 18
 code after-E0 = 24
 code after-ED = 30
 code after-F0 = 36
 code after-F4 = 42
-code wrong = 48
+code failed = 48
 
 -- The rule of the two tables: at each state's place, the row of a byte's class has the code of the next state
 pub record Encodes (classes rows : List ℕ) : Type 0 where
@@ -23,8 +23,8 @@ pub record Encodes (classes rows : List ℕ) : Type 0 where
   pub right : (q : State) (b : ℕ) → b < 256 → (getD rows (getD classes b 0) 0 / 2 ^ code q) % 64 ≡ code (step q b)
 
 -- From x, the code of the state after the first a bytes of s, the walk comes to r, the code of that after the first e
-abbrev pub Walks : List ℕ → ℕ → ℕ → ℕ → ℕ → Type 0
-Walks s a e x r = (p : State) → x ≡ code (run p (take a s)) → r ≡ code (run p (take e s))
+abbrev pub Reaches : List ℕ → ℕ → ℕ → ℕ → ℕ → Type 0
+Reaches s a e x r = (p : State) → x ≡ code (wantedAfter p (take a s)) → r ≡ code (wantedAfter p (take e s))
 
 -- The bytes of s from the place a up to e are below 128
 abbrev pub Ascii : List ℕ → ℕ → ℕ → Type 0

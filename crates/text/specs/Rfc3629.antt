@@ -21,25 +21,25 @@ abbrev pub In : Range → ℕ → Type 0
 In (lo to hi) b = (lo ≤ b) × (b ≤ hi)
 
 -- The bytes are one of each range, in the order of the ranges
-pub data Bytes : List Range → List ℕ → Type 0 where
-  done : Bytes [] []
-  byte : {r : Range} {rs : List Range} {b : ℕ} {c : List ℕ} → In r b → Bytes rs c → Bytes (r ∷ rs) (b ∷ c)
+pub data Sequence : List Range → List ℕ → Type 0 where
+  done : Sequence [] []
+  byte : {r : Range} {rs : List Range} {b : ℕ} {c : List ℕ} → In r b → Sequence rs c → Sequence (r ∷ rs) (b ∷ c)
 
 -- The bytes of one character: UTF8-char = UTF8-1 / UTF8-2 / UTF8-3 / UTF8-4
 pub data Char (c : List ℕ) : Type 0 where
   -- UTF8-1 = %x00-7F
-  utf8-1 : Bytes (0x00 to 0x7F ∷ []) c → Char c
+  utf8-1 : Sequence (0x00 to 0x7F ∷ []) c → Char c
   -- UTF8-2 = %xC2-DF UTF8-tail
-  utf8-2 : Bytes (0xC2 to 0xDF ∷ tail ∷ []) c → Char c
+  utf8-2 : Sequence (0xC2 to 0xDF ∷ tail ∷ []) c → Char c
   -- UTF8-3 = %xE0 %xA0-BF UTF8-tail / %xE1-EC 2( UTF8-tail ) / %xED %x80-9F UTF8-tail / %xEE-EF 2( UTF8-tail )
-  utf8-3-E0 : Bytes (only 0xE0 ∷ 0xA0 to 0xBF ∷ tail ∷ []) c → Char c
-  utf8-3-E1 : Bytes (0xE1 to 0xEC ∷ tail ∷ tail ∷ []) c → Char c
-  utf8-3-ED : Bytes (only 0xED ∷ 0x80 to 0x9F ∷ tail ∷ []) c → Char c
-  utf8-3-EE : Bytes (0xEE to 0xEF ∷ tail ∷ tail ∷ []) c → Char c
+  utf8-3-E0 : Sequence (only 0xE0 ∷ 0xA0 to 0xBF ∷ tail ∷ []) c → Char c
+  utf8-3-E1 : Sequence (0xE1 to 0xEC ∷ tail ∷ tail ∷ []) c → Char c
+  utf8-3-ED : Sequence (only 0xED ∷ 0x80 to 0x9F ∷ tail ∷ []) c → Char c
+  utf8-3-EE : Sequence (0xEE to 0xEF ∷ tail ∷ tail ∷ []) c → Char c
   -- UTF8-4 = %xF0 %x90-BF 2( UTF8-tail ) / %xF1-F3 3( UTF8-tail ) / %xF4 %x80-8F 2( UTF8-tail )
-  utf8-4-F0 : Bytes (only 0xF0 ∷ 0x90 to 0xBF ∷ tail ∷ tail ∷ []) c → Char c
-  utf8-4-F1 : Bytes (0xF1 to 0xF3 ∷ tail ∷ tail ∷ tail ∷ []) c → Char c
-  utf8-4-F4 : Bytes (only 0xF4 ∷ 0x80 to 0x8F ∷ tail ∷ tail ∷ []) c → Char c
+  utf8-4-F0 : Sequence (only 0xF0 ∷ 0x90 to 0xBF ∷ tail ∷ tail ∷ []) c → Char c
+  utf8-4-F1 : Sequence (0xF1 to 0xF3 ∷ tail ∷ tail ∷ tail ∷ []) c → Char c
+  utf8-4-F4 : Sequence (only 0xF4 ∷ 0x80 to 0x8F ∷ tail ∷ tail ∷ []) c → Char c
 
 -- The bytes are characters, one after the other: UTF8-octets = *( UTF8-char )
 pub data Utf8 : List ℕ → Type 0 where

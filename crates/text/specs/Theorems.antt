@@ -5,12 +5,12 @@ use mathlib.Core.Logic.{_↔_}
 use mathlib.Core.Path.{_≡_}
 use Prim.Native.Nat.{ℕ}
 use Rattle.text.specs.Rfc3629.{Utf8}
-use Rattle.text.specs.Walk.{State, run, utf8}
+use Rattle.text.specs.Walk.{State, wantedAfter, utf8}
 
 -- The test is true exactly on what RFC 3629's grammar derives: `utf8-exact`
 abbrev pub Utf8-exact : Type 0
 Utf8-exact = (l : List ℕ) → (utf8 l ≡ true) ↔ Utf8 l
 
--- To walk over two parts is to walk over the first, and from there over the second: `run-append`
-abbrev pub Run-append : Type 0
-Run-append = (q : State) (l m : List ℕ) → run q (l ++ m) ≡ run (run q l) m
+-- To walk over two parts is to walk over the first, and from there over the second: `wanted-append`
+abbrev pub Wanted-append : Type 0
+Wanted-append = (q : State) (l m : List ℕ) → wantedAfter q (l ++ m) ≡ wantedAfter (wantedAfter q l) m

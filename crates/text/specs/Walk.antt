@@ -11,14 +11,14 @@ infix 70 _⇒_
 -- one of the four first bytes that narrow the second; or, past a wrong byte, nothing that could come
 pub data State : Type 0 where
   start : State
-  one : State
-  two : State
-  three : State
+  tail-1 : State
+  tail-2 : State
+  tail-3 : State
   after-E0 : State
   after-ED : State
   after-F0 : State
   after-F4 : State
-  wrong : State
+  failed : State
 
 -- A transition: a byte of the range leads to the state
 pub data Transition : Type 0 where
@@ -28,23 +28,23 @@ pub data Transition : Type 0 where
 abbrev pub transitions : State → List Transition
 transitions start =
     0x00 to 0x7F ⇒ start
-    ∷ 0xC2 to 0xDF ⇒ one
+    ∷ 0xC2 to 0xDF ⇒ tail-1
     ∷ only 0xE0 ⇒ after-E0
-    ∷ 0xE1 to 0xEC ⇒ two
+    ∷ 0xE1 to 0xEC ⇒ tail-2
     ∷ only 0xED ⇒ after-ED
-    ∷ 0xEE to 0xEF ⇒ two
+    ∷ 0xEE to 0xEF ⇒ tail-2
     ∷ only 0xF0 ⇒ after-F0
-    ∷ 0xF1 to 0xF3 ⇒ three
+    ∷ 0xF1 to 0xF3 ⇒ tail-3
     ∷ only 0xF4 ⇒ after-F4
     ∷ []
-transitions one = tail ⇒ start ∷ []
-transitions two = tail ⇒ one ∷ []
-transitions three = tail ⇒ two ∷ []
-transitions after-E0 = 0xA0 to 0xBF ⇒ one ∷ []
-transitions after-ED = 0x80 to 0x9F ⇒ one ∷ []
-transitions after-F0 = 0x90 to 0xBF ⇒ two ∷ []
-transitions after-F4 = 0x80 to 0x8F ⇒ two ∷ []
-transitions wrong = []
+transitions tail-1 = tail ⇒ start ∷ []
+transitions tail-2 = tail ⇒ tail-1 ∷ []
+transitions tail-3 = tail ⇒ tail-2 ∷ []
+transitions after-E0 = 0xA0 to 0xBF ⇒ tail-1 ∷ []
+transitions after-ED = 0x80 to 0x9F ⇒ tail-1 ∷ []
+transitions after-F0 = 0x90 to 0xBF ⇒ tail-2 ∷ []
+transitions after-F4 = 0x80 to 0x8F ⇒ tail-2 ∷ []
+transitions failed = []
 
 -- Whether the byte b lies in the range
 abbrev pub within : Range → ℕ → Bool
@@ -55,9 +55,9 @@ abbrev pub pick : Bool → State → State → State
 pick true q r = q
 pick false q r = r
 
--- The state of the first transition whose range has the byte; wrong where none has it
+-- The state of the first transition whose range has the byte; failed where none has it
 abbrev pub follow : List Transition → ℕ → State
-follow [] b = wrong
+follow [] b = failed
 follow (r ⇒ q ∷ rest) b = pick (within r b) q (follow rest b)
 
 -- What is wanted after one byte more
@@ -65,21 +65,21 @@ unfoldable pub step : State → ℕ → State
 step q b = follow (transitions q) b
 
 -- What is wanted after the bytes of l, where q was wanted before them
-abbrev pub run : State → List ℕ → State
-run q l = foldl step q l
+abbrev pub wantedAfter : State → List ℕ → State
+wantedAfter q l = foldl step q l
 
 -- Nothing is wanted
 abbrev pub accepting : State → Bool
 accepting start = true
-accepting one = false
-accepting two = false
-accepting three = false
+accepting tail-1 = false
+accepting tail-2 = false
+accepting tail-3 = false
 accepting after-E0 = false
 accepting after-ED = false
 accepting after-F0 = false
 accepting after-F4 = false
-accepting wrong = false
+accepting failed = false
 
 -- The bytes are UTF-8: nothing is wanted after the last of them
 abbrev pub utf8 : List ℕ → Bool
-utf8 l = accepting (run start l)
+utf8 l = accepting (wantedAfter start l)

@@ -1,11 +1,13 @@
 // Whether bytes are UTF-8, as RFC 3629 defines it: what Rust asks of std::str::from_utf8.
 ghost use mathlib.Core.Path.{_≡_};
 ghost use mathlib.Core.Bool.{true};
+ghost use mathlib.Core.Logic.{_↔_};
 ghost use Prim.Native.Nat.{_+_, _<_, _≤_};
 ghost use lib.ListN.{length};
-ghost use Rattle.text.specs.Walk.{run, utf8};
+ghost use Rattle.text.specs.Rfc3629.{Utf8};
+ghost use Rattle.text.specs.Walk.{wantedAfter, utf8};
 ghost use Rattle.text.specs.States.{stateOf};
-ghost use Rattle.text.specs.Private.{code, Encodes, Walks, Decodes, Ascii};
+ghost use Rattle.text.specs.Private.{code, Encodes, Reaches, Decodes, Ascii};
 
 mod tables;
 
@@ -36,6 +38,7 @@ const BLOCK: usize = 64;
 // in registers.
 pub fn is_utf8(s: &[u8]) -> bool
     ensures { λ r. ⌜ r ≡ utf8 (now (s .entry)) ⌝ }
+    ensures { λ r. ⌜ (r ≡ true) ↔ Utf8 (now (s .entry)) ⌝ }
 {
     let n = s.len();
     let i = ascii_prefix(&s[..n]);
@@ -48,7 +51,7 @@ pub fn is_utf8(s: &[u8]) -> bool
 // Where a walk that stood at q stands after the bytes of s. A text may be walked in parts, each from the answer for the
 // one before; it is UTF-8 where the last answer is Start.
 pub fn walk(q: State, s: &[u8]) -> State
-    ensures { λ r. ⌜ stateOf r ≡ run (stateOf q) (now (s .entry)) ⌝ }
+    ensures { λ r. ⌜ stateOf r ≡ wantedAfter (stateOf q) (now (s .entry)) ⌝ }
 {
     state_of(walk_from(s, 0, code_of(q)))
 }
@@ -56,7 +59,7 @@ pub fn walk(q: State, s: &[u8]) -> State
 // The walk over s from the place a on, from the state held as q. Each call makes the tables anew on its stack.
 fn walk_from(s: &[u8], a: usize, q: u64) -> u64
     requires { ⌜ a ≤ length (now s) ⌝ }
-    ensures { λ r. ⌜ Walks (now (s .entry)) a (length (now (s .entry))) q r ⌝ }
+    ensures { λ r. ⌜ Reaches (now (s .entry)) a (length (now (s .entry))) q r ⌝ }
 {
     walk_blocks(&CLASS, &NEXT, s, a, q)
 }
@@ -65,7 +68,7 @@ fn walk_from(s: &[u8], a: usize, q: u64) -> u64
 fn walk_blocks(class: &[u8; 256], next: &[u64; 12], s: &[u8], a: usize, q: u64) -> u64
     requires { ⌜ Encodes (now class) (now next) ⌝ }
     requires { ⌜ a ≤ length (now s) ⌝ }
-    ensures { λ r. ⌜ Walks (now (s .entry)) a (length (now (s .entry))) q r ⌝ }
+    ensures { λ r. ⌜ Reaches (now (s .entry)) a (length (now (s .entry))) q r ⌝ }
 {
     let n = s.len();
     let mut x = q;
@@ -84,7 +87,7 @@ fn walk_blocks(class: &[u8; 256], next: &[u64; 12], s: &[u8], a: usize, q: u64) 
 fn walk_bytes(class: &[u8; 256], next: &[u64; 12], s: &[u8], a: usize, e: usize, q: u64) -> u64
     requires { ⌜ Encodes (now class) (now next) ⌝ }
     requires { ⌜ (a ≤ e) × (e ≤ length (now s)) ⌝ }
-    ensures { λ r. ⌜ Walks (now (s .entry)) a e q r ⌝ }
+    ensures { λ r. ⌜ Reaches (now (s .entry)) a e q r ⌝ }
 {
     let mut x = q;
     let mut i = a;

@@ -5,14 +5,14 @@ use mathlib.Core.Path.{_≡_}
 use Rattle.layout.specs.Layout.{Layout, nothing, _then_}
 use Rattle.layout.specs.Forms.{times}
 use Rattle.layout.specs.Machine.{drive}
-use Rattle.leaf.specs.State.{State}
+use Rattle.leaf.specs.State.{ReadState}
 use Rattle.leaf.specs.Run.{run}
 
-pub once : (L : Layout) (s : List ℕ) (st r : State) → r ≡ run (times 1 L) s st → r ≡ run L s st
+pub once : (L : Layout) (s : List ℕ) (st r : ReadState) → r ≡ run (times 1 L) s st → r ≡ run L s st
 unfolding drive
 once L s st r q = q
 
 -- Nothing stands before it
-pub unnamed : (L : Layout) (s : List ℕ) (st r : State) → r ≡ run (nothing then L) s st → r ≡ run L s st
+pub unnamed : (L : Layout) (s : List ℕ) (st r : ReadState) → r ≡ run (nothing then L) s st → r ≡ run L s st
 unfolding drive
 unnamed L s st r q = q

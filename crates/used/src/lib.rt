@@ -4,7 +4,7 @@ ghost use mathlib.Core.Path.{_≡_};
 ghost use Rattle.layout.specs.Layout.{_then_};
 ghost use Rattle.layout.specs.Forms.{times};
 ghost use Rattle.layout.specs.Entities.{UsedType, PgExternArgument, PgExternArgumentList, PgExternReturn, AggregateType, AggregateTypeList};
-ghost use Rattle.leaf.specs.State.{state};
+ghost use Rattle.leaf.specs.State.{readState};
 ghost use Rattle.leaf.specs.Run.{run};
 ghost use Rattle.used.specs.Private.{named};
 
@@ -16,19 +16,19 @@ enum Name {
 }
 
 pub fn read_used_type(c: Cursor, s: &[u8], t: &mut [u32]) -> Cursor
-    ensures { λ r. ⌜ state r (now (t .exit)) ≡ run UsedType (now (s .entry)) (state c (now (t .entry))) ⌝ }
+    ensures { λ r. ⌜ readState r (now (t .exit)) ≡ run UsedType (now (s .entry)) (readState c (now (t .entry))) ⌝ }
 {
     read_used_types(c, s, t, Name::None, 1)
 }
 
 pub fn read_pg_extern_argument(c: Cursor, s: &[u8], t: &mut [u32]) -> Cursor
-    ensures { λ r. ⌜ state r (now (t .exit)) ≡ run PgExternArgument (now (s .entry)) (state c (now (t .entry))) ⌝ }
+    ensures { λ r. ⌜ readState r (now (t .exit)) ≡ run PgExternArgument (now (s .entry)) (readState c (now (t .entry))) ⌝ }
 {
     read_used_types(c, s, t, Name::Str, 1)
 }
 
 pub fn read_pg_extern_argument_list(c: Cursor, s: &[u8], t: &mut [u32]) -> Cursor
-    ensures { λ r. ⌜ state r (now (t .exit)) ≡ run PgExternArgumentList (now (s .entry)) (state c (now (t .entry))) ⌝ }
+    ensures { λ r. ⌜ readState r (now (t .exit)) ≡ run PgExternArgumentList (now (s .entry)) (readState c (now (t .entry))) ⌝ }
 {
     let c = c.read_count(s, t);
     read_used_types(c, s, t, Name::Str, c.value)
@@ -36,7 +36,7 @@ pub fn read_pg_extern_argument_list(c: Cursor, s: &[u8], t: &mut [u32]) -> Curso
 
 // A function's return. The items of an iterated one are laid out like the types of an aggregate.
 pub fn read_pg_extern_return(c: Cursor, s: &[u8], t: &mut [u32]) -> Cursor
-    ensures { λ r. ⌜ state r (now (t .exit)) ≡ run PgExternReturn (now (s .entry)) (state c (now (t .entry))) ⌝ }
+    ensures { λ r. ⌜ readState r (now (t .exit)) ≡ run PgExternReturn (now (s .entry)) (readState c (now (t .entry))) ⌝ }
 {
     let at = c.at;
     let c = c.read_u8(s, t);
@@ -51,13 +51,13 @@ pub fn read_pg_extern_return(c: Cursor, s: &[u8], t: &mut [u32]) -> Cursor
 }
 
 pub fn read_aggregate_type(c: Cursor, s: &[u8], t: &mut [u32]) -> Cursor
-    ensures { λ r. ⌜ state r (now (t .exit)) ≡ run AggregateType (now (s .entry)) (state c (now (t .entry))) ⌝ }
+    ensures { λ r. ⌜ readState r (now (t .exit)) ≡ run AggregateType (now (s .entry)) (readState c (now (t .entry))) ⌝ }
 {
     read_used_types(c, s, t, Name::OptionStr, 1)
 }
 
 pub fn read_aggregate_type_list(c: Cursor, s: &[u8], t: &mut [u32]) -> Cursor
-    ensures { λ r. ⌜ state r (now (t .exit)) ≡ run AggregateTypeList (now (s .entry)) (state c (now (t .entry))) ⌝ }
+    ensures { λ r. ⌜ readState r (now (t .exit)) ≡ run AggregateTypeList (now (s .entry)) (readState c (now (t .entry))) ⌝ }
 {
     let c = c.read_count(s, t);
     read_used_types(c, s, t, Name::OptionStr, c.value)
@@ -66,7 +66,7 @@ pub fn read_aggregate_type_list(c: Cursor, s: &[u8], t: &mut [u32]) -> Cursor
 // Some used types, each behind its name. One is read as a list of one, so that only this loop calls `one_used_type`: the
 // compiler then holds the cursor in registers, and, since the part of the bytes is made here, their place and length too.
 fn read_used_types(c: Cursor, s: &[u8], t: &mut [u32], name: Name, count: usize) -> Cursor
-    ensures { λ r. ⌜ state r (now (t .exit)) ≡ run (times count (named name then UsedType)) (now (s .entry)) (state c (now (t .entry))) ⌝ }
+    ensures { λ r. ⌜ readState r (now (t .exit)) ≡ run (times count (named name then UsedType)) (now (s .entry)) (readState c (now (t .entry))) ⌝ }
 {
     let n = s.len();
     let mut c = c.anew();
@@ -82,7 +82,7 @@ fn read_used_types(c: Cursor, s: &[u8], t: &mut [u32], name: Name, count: usize)
 }
 
 fn one_used_type(c: Cursor, s: &[u8], t: &mut [u32], name: Name) -> Cursor
-    ensures { λ r. ⌜ state r (now (t .exit)) ≡ run (named name then UsedType) (now (s .entry)) (state c (now (t .entry))) ⌝ }
+    ensures { λ r. ⌜ readState r (now (t .exit)) ≡ run (named name then UsedType) (now (s .entry)) (readState c (now (t .entry))) ⌝ }
 {
     let c = read_name(c, s, t, name);
     let c = c.read_str(s, t); // ty_source
@@ -96,7 +96,7 @@ fn one_used_type(c: Cursor, s: &[u8], t: &mut [u32], name: Name) -> Cursor
 
 // What stands before a used type.
 fn read_name(c: Cursor, s: &[u8], t: &mut [u32], name: Name) -> Cursor
-    ensures { λ r. ⌜ state r (now (t .exit)) ≡ run (named name) (now (s .entry)) (state c (now (t .entry))) ⌝ }
+    ensures { λ r. ⌜ readState r (now (t .exit)) ≡ run (named name) (now (s .entry)) (readState c (now (t .entry))) ⌝ }
 {
     match name {
         Name::None => c,

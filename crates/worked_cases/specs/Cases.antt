@@ -1,45 +1,89 @@
 -- The fourteen cases that document 01 works out, in one table.
 use Prim.Native.Nat.{ℕ}
-use mathlib.Core.List.{List, [], _∷_, map}
+use mathlib.Core.List.{List, [], _∷_}
 use mathlib.Core.Option.{Option, none, some}
 use mathlib.Core.Path.{_≡_}
 use lib.ListN.{replicate}
 use Rattle.decimal.specs.Ascii.{ascii}
-use Rattle.layout.specs.Entities.{FunctionMetadataType}
-use Rattle.layout.specs.Alone.{readingAlone}
+use Rattle.layout.specs.Layout.{Value, leaves}
+use Rattle.layout.specs.Written.{rowsFrom}
+use Rattle.layout.specs.Entities.{Entity, Schema, FunctionMetadataType, OptionResolution, ArgumentSql, ReturnSql, Returns, SqlMapping}
+use Rattle.layout.specs.Reading.{ok}
+use Rattle.layout.specs.Alone.{Derives}
+use Rattle.layout.specs.ReadAlone.{readingAlone}
+use Rattle.entry_writer.specs.Writing.{write}
+use Rattle.section.specs.Derivation.{Item, sentinel, entity, Derivation}
+use Rattle.section.specs.Refusals.{SectionRefusal}
+use Rattle.section.specs.Demand3.{Good}
 use Rattle.parts.specs.Numeric.{numericText}
 use Rattle.listing.specs.Listing.{lentTable, resultLines, listing}
 
--- What is given: a section; a metadata record alone; the precision and the scale of a Numeric mapping
+-- What is given: a section with its derivation; a section with the number and the place of its refusal; a metadata record with
+-- its value and its length; the precision and the scale of a Numeric mapping
 pub data Input : Type 0 where
-  section metadata : List ℕ → Input
+  derived : List ℕ → Derivation → Input
+  bad : List ℕ → (number place : ℕ) → Input
+  metadata : List ℕ → Value FunctionMetadataType → (size : ℕ) → Input
   numeric : (precision scale : Option ℕ) → Input
 
 -- What is shown of it: the listing; the same lines for a metadata record; the SQL text
 abbrev pub shown : Input → List ℕ
-shown (section s) = listing s
-shown (metadata s) = resultLines (readingAlone FunctionMetadataType 0 s lentTable)
+shown (derived s d) = listing s
+shown (bad s n p) = listing s
+shown (metadata s v size) = resultLines (readingAlone FunctionMetadataType 0 s lentTable)
 shown (numeric precision scale) = numericText precision scale
+
+-- What the layouts say of it: the derivation derives the section; the section meets the refusal's condition; the value derives the
+-- record, and from the rows of its leaves the record is written, with its length
+abbrev pub Holds : Input → Type 0
+Holds (derived s d) = Good s d
+Holds (bad s n p) = SectionRefusal s n p
+Holds (metadata s v size) =
+    Derives FunctionMetadataType s v × (write FunctionMetadataType (rowsFrom 0 (leaves FunctionMetadataType v)) [] size ≡ ok s size)
+Holds (numeric precision scale) = Unit {0}
+
+-- A derivation without entries
+abbrev pub onlyPadding : ℕ → Derivation
+onlyPadding n = record { items = []; padding = n }
+
+-- An item alone
+abbrev pub alone : Item → Derivation
+alone i = record { items = i ∷ []; padding = 0 }
+
+-- A schema of three empty texts and the line 0
+unfoldable pub emptySchema : Value Entity
+unfolding Entity Schema
+emptySchema = (1, tt, ([], ([], ([], 0))))
+
+-- No resolution, the argument Skip, the result One of Skip
+unfoldable pub skipAndOneOfSkip : Value FunctionMetadataType
+unfolding FunctionMetadataType OptionResolution ArgumentSql ReturnSql Returns SqlMapping
+skipAndOneOfSkip = ((0, tt, tt), ((1, tt, (5, tt, tt)), (1, tt, (1, tt, (5, tt, tt)))))
 
 -- The cases, each with what document 01 shows of it
 unfoldable pub cases : List (Input × List ℕ)
 cases =
-    (section (0x11 ∷ 0x00 ∷ 0x00 ∷ 0x00 ∷ 0x01 ∷ replicate 16 0x00), ascii "accept 1 5\n1 4 1\n6 9 0\n6 13 0\n6 17 0\n4 17 0\n")
-    ∷ (section [], ascii "accept 0 0\n")
-    ∷ (section (0x00 ∷ 0x00 ∷ 0x00 ∷ []), ascii "accept 0 0\n")
-    ∷ (section (0x00 ∷ 0x00 ∷ 0x00 ∷ 0x00 ∷ []), ascii "accept 0 0\n")
-    ∷ (section (0x09 ∷ 0x00 ∷ 0x00 ∷ 0x00 ∷ 0x00 ∷ 0x04 ∷ 0x00 ∷ 0x00 ∷ 0x00 ∷ 0x70 ∷ 0x67 ∷ 0x72 ∷ 0x78 ∷ []), ascii "accept 0 0\n")
-    ∷ (section (0x00 ∷ 0x01 ∷ []), ascii "refuse 2 0\n")
-    ∷ (section (0x00 ∷ 0x00 ∷ 0x00 ∷ 0x00 ∷ 0x05 ∷ []), ascii "refuse 3 0\n")
-    ∷ (section (0x02 ∷ 0x00 ∷ 0x00 ∷ 0x00 ∷ 0x01 ∷ []), ascii "refuse 4 0\n")
-    ∷ (section (0x01 ∷ 0x00 ∷ 0x00 ∷ 0x00 ∷ 0x0A ∷ []), ascii "refuse 8 4\n")
-    ∷ (section (0x01 ∷ 0x00 ∷ 0x00 ∷ 0x00 ∷ 0x0A ∷ 0x01 ∷ []), ascii "refuse 2 5\n")
-    ∷ (section (0x12 ∷ 0x00 ∷ 0x00 ∷ 0x00 ∷ 0x01 ∷ replicate 17 0x00), ascii "refuse 12 21\n")
-    ∷ (metadata (0x00 ∷ 0x01 ∷ 0x05 ∷ 0x01 ∷ 0x01 ∷ 0x05 ∷ []), ascii "accept 0 6\n3 0 0\n2 1 1\n2 2 5\n2 3 1\n2 4 1\n2 5 5\n")
+    (derived (0x11 ∷ 0x00 ∷ 0x00 ∷ 0x00 ∷ 0x01 ∷ replicate 16 0x00) (alone (entity emptySchema)), ascii "accept 1 5\n1 4 1\n6 9 0\n6 13 0\n6 17 0\n4 17 0\n")
+    ∷ (derived [] (onlyPadding 0), ascii "accept 0 0\n")
+    ∷ (derived (0x00 ∷ 0x00 ∷ 0x00 ∷ []) (onlyPadding 3), ascii "accept 0 0\n")
+    ∷ (derived (0x00 ∷ 0x00 ∷ 0x00 ∷ 0x00 ∷ []) (onlyPadding 4), ascii "accept 0 0\n")
+    ∷ (derived (0x09 ∷ 0x00 ∷ 0x00 ∷ 0x00 ∷ 0x00 ∷ 0x04 ∷ 0x00 ∷ 0x00 ∷ 0x00 ∷ 0x70 ∷ 0x67 ∷ 0x72 ∷ 0x78 ∷ []) (alone sentinel), ascii "accept 0 0\n")
+    ∷ (bad (0x00 ∷ 0x01 ∷ []) 2 0, ascii "refuse 2 0\n")
+    ∷ (bad (0x00 ∷ 0x00 ∷ 0x00 ∷ 0x00 ∷ 0x05 ∷ []) 3 0, ascii "refuse 3 0\n")
+    ∷ (bad (0x02 ∷ 0x00 ∷ 0x00 ∷ 0x00 ∷ 0x01 ∷ []) 4 0, ascii "refuse 4 0\n")
+    ∷ (bad (0x01 ∷ 0x00 ∷ 0x00 ∷ 0x00 ∷ 0x0A ∷ []) 8 4, ascii "refuse 8 4\n")
+    ∷ (bad (0x01 ∷ 0x00 ∷ 0x00 ∷ 0x00 ∷ 0x0A ∷ 0x01 ∷ []) 2 5, ascii "refuse 2 5\n")
+    ∷ (bad (0x12 ∷ 0x00 ∷ 0x00 ∷ 0x00 ∷ 0x01 ∷ replicate 17 0x00) 12 21, ascii "refuse 12 21\n")
+    ∷ (metadata (0x00 ∷ 0x01 ∷ 0x05 ∷ 0x01 ∷ 0x01 ∷ 0x05 ∷ []) skipAndOneOfSkip 6, ascii "accept 0 6\n3 0 0\n2 1 1\n2 2 5\n2 3 1\n2 4 1\n2 5 5\n")
     ∷ (numeric (some 10) (some 2), ascii "NUMERIC(10, 2)")
     ∷ (numeric none (some 5), ascii "NUMERIC")
     ∷ []
 
--- Each is shown so: `cases-hold` in proofs/Cases.antt
+-- Of each case
+abbrev pub Each : List (Input × List ℕ) → Type 0
+Each [] = Unit {0}
+Each (c ∷ cs) = (shown (c .0) ≡ c .1) × Holds (c .0) × Each cs
+
+-- Each is shown so, and the layouts say so: `cases-hold` in proofs/Cases.antt
 abbrev pub Cases-hold : Type 0
-Cases-hold = map (λ (c : Input × List ℕ). shown (c .0)) cases ≡ map (λ (c : Input × List ℕ). c .1) cases
+Cases-hold = Each cases

@@ -9,10 +9,11 @@ ghost use Rattle.layout.specs.Forms.{times};
 ghost use Rattle.layout.specs.Entities.{ArgumentError, ReturnsError, FunctionMetadataType, OptionResolution, Resolution, TypeOrigin};
 ghost use Rattle.length.specs.Length.{lengthOf};
 ghost use Rattle.entry_writer.specs.Writing.{measured, write, lengthIn, written};
-ghost use Rattle.entry_writer.specs.Run.{run};
+ghost use Rattle.entry_writer.specs.Refusals.{ExactLength, ExactWriting};
+ghost use Rattle.entry_writer.specs.Run.{consume};
 
 pub fn type_origin(w: EntryWriter, rows: &[u32], text: &[u8]) -> EntryWriter
-    ensures { λ r. ⌜ r ≡ run TypeOrigin (now (rows .entry)) (now (text .entry)) w ⌝ }
+    ensures { λ r. ⌜ r ≡ consume TypeOrigin (now (rows .entry)) (now (text .entry)) w ⌝ }
 {
     let w = w.u8(rows, text);
     let tag = w.value;
@@ -23,7 +24,7 @@ pub fn type_origin(w: EntryWriter, rows: &[u32], text: &[u8]) -> EntryWriter
 }
 
 pub fn sql_mapping(w: EntryWriter, rows: &[u32], text: &[u8]) -> EntryWriter
-    ensures { λ r. ⌜ r ≡ run SqlMapping (now (rows .entry)) (now (text .entry)) w ⌝ }
+    ensures { λ r. ⌜ r ≡ consume SqlMapping (now (rows .entry)) (now (text .entry)) w ⌝ }
 {
     sql_mappings(w, rows, text, 1)
 }
@@ -31,7 +32,7 @@ pub fn sql_mapping(w: EntryWriter, rows: &[u32], text: &[u8]) -> EntryWriter
 // Some mappings. One is taken as a list of one, so that only this loop calls `one_sql_mapping`: the compiler then holds the
 // writer in registers.
 fn sql_mappings(w: EntryWriter, rows: &[u32], text: &[u8], count: usize) -> EntryWriter
-    ensures { λ r. ⌜ r ≡ run (times count SqlMapping) (now (rows .entry)) (now (text .entry)) w ⌝ }
+    ensures { λ r. ⌜ r ≡ consume (times count SqlMapping) (now (rows .entry)) (now (text .entry)) w ⌝ }
 {
     let mut w = w;
     let mut i: usize = 0;
@@ -46,7 +47,7 @@ fn sql_mappings(w: EntryWriter, rows: &[u32], text: &[u8], count: usize) -> Entr
 }
 
 fn one_sql_mapping(w: EntryWriter, rows: &[u32], text: &[u8]) -> EntryWriter
-    ensures { λ r. ⌜ r ≡ run SqlMapping (now (rows .entry)) (now (text .entry)) w ⌝ }
+    ensures { λ r. ⌜ r ≡ consume SqlMapping (now (rows .entry)) (now (text .entry)) w ⌝ }
 {
     let w = w.u8(rows, text);
     let tag = w.value;
@@ -61,7 +62,7 @@ fn one_sql_mapping(w: EntryWriter, rows: &[u32], text: &[u8]) -> EntryWriter
 }
 
 pub fn sql_array_mapping(w: EntryWriter, rows: &[u32], text: &[u8]) -> EntryWriter
-    ensures { λ r. ⌜ r ≡ run SqlArrayMapping (now (rows .entry)) (now (text .entry)) w ⌝ }
+    ensures { λ r. ⌜ r ≡ consume SqlArrayMapping (now (rows .entry)) (now (text .entry)) w ⌝ }
 {
     let w = w.u8(rows, text);
     let tag = w.value;
@@ -75,7 +76,7 @@ pub fn sql_array_mapping(w: EntryWriter, rows: &[u32], text: &[u8]) -> EntryWrit
 
 // A Numeric mapping: each number is taken also where its flag is 0.
 pub fn numeric(w: EntryWriter, rows: &[u32], text: &[u8]) -> EntryWriter
-    ensures { λ r. ⌜ r ≡ run Numeric (now (rows .entry)) (now (text .entry)) w ⌝ }
+    ensures { λ r. ⌜ r ≡ consume Numeric (now (rows .entry)) (now (text .entry)) w ⌝ }
 {
     let w = w.bool(rows, text); // has_precision
     let w = w.u32(rows, text); // precision
@@ -84,7 +85,7 @@ pub fn numeric(w: EntryWriter, rows: &[u32], text: &[u8]) -> EntryWriter
 }
 
 pub fn returns(w: EntryWriter, rows: &[u32], text: &[u8]) -> EntryWriter
-    ensures { λ r. ⌜ r ≡ run Returns (now (rows .entry)) (now (text .entry)) w ⌝ }
+    ensures { λ r. ⌜ r ≡ consume Returns (now (rows .entry)) (now (text .entry)) w ⌝ }
 {
     let w = w.u8(rows, text);
     let tag = w.value;
@@ -97,7 +98,7 @@ pub fn returns(w: EntryWriter, rows: &[u32], text: &[u8]) -> EntryWriter
 }
 
 pub fn sql_mapping_list(w: EntryWriter, rows: &[u32], text: &[u8]) -> EntryWriter
-    ensures { λ r. ⌜ r ≡ run SqlMappingList (now (rows .entry)) (now (text .entry)) w ⌝ }
+    ensures { λ r. ⌜ r ≡ consume SqlMappingList (now (rows .entry)) (now (text .entry)) w ⌝ }
 {
     let w = w.count(rows, text);
     let count = w.value;
@@ -105,7 +106,7 @@ pub fn sql_mapping_list(w: EntryWriter, rows: &[u32], text: &[u8]) -> EntryWrite
 }
 
 pub fn argument_error(w: EntryWriter, rows: &[u32], text: &[u8]) -> EntryWriter
-    ensures { λ r. ⌜ r ≡ run ArgumentError (now (rows .entry)) (now (text .entry)) w ⌝ }
+    ensures { λ r. ⌜ r ≡ consume ArgumentError (now (rows .entry)) (now (text .entry)) w ⌝ }
 {
     let w = w.u8(rows, text);
     let tag = w.value;
@@ -117,7 +118,7 @@ pub fn argument_error(w: EntryWriter, rows: &[u32], text: &[u8]) -> EntryWriter
 }
 
 pub fn argument_sql(w: EntryWriter, rows: &[u32], text: &[u8]) -> EntryWriter
-    ensures { λ r. ⌜ r ≡ run ArgumentSql (now (rows .entry)) (now (text .entry)) w ⌝ }
+    ensures { λ r. ⌜ r ≡ consume ArgumentSql (now (rows .entry)) (now (text .entry)) w ⌝ }
 {
     let w = w.u8(rows, text);
     let tag = w.value;
@@ -129,7 +130,7 @@ pub fn argument_sql(w: EntryWriter, rows: &[u32], text: &[u8]) -> EntryWriter
 }
 
 pub fn returns_error(w: EntryWriter, rows: &[u32], text: &[u8]) -> EntryWriter
-    ensures { λ r. ⌜ r ≡ run ReturnsError (now (rows .entry)) (now (text .entry)) w ⌝ }
+    ensures { λ r. ⌜ r ≡ consume ReturnsError (now (rows .entry)) (now (text .entry)) w ⌝ }
 {
     let w = w.u8(rows, text);
     let tag = w.value;
@@ -140,7 +141,7 @@ pub fn returns_error(w: EntryWriter, rows: &[u32], text: &[u8]) -> EntryWriter
 }
 
 pub fn return_sql(w: EntryWriter, rows: &[u32], text: &[u8]) -> EntryWriter
-    ensures { λ r. ⌜ r ≡ run ReturnSql (now (rows .entry)) (now (text .entry)) w ⌝ }
+    ensures { λ r. ⌜ r ≡ consume ReturnSql (now (rows .entry)) (now (text .entry)) w ⌝ }
 {
     let w = w.u8(rows, text);
     let tag = w.value;
@@ -153,7 +154,7 @@ pub fn return_sql(w: EntryWriter, rows: &[u32], text: &[u8]) -> EntryWriter
 
 // The metadata record.
 pub fn function_metadata_type(w: EntryWriter, rows: &[u32], text: &[u8]) -> EntryWriter
-    ensures { λ r. ⌜ r ≡ run FunctionMetadataType (now (rows .entry)) (now (text .entry)) w ⌝ }
+    ensures { λ r. ⌜ r ≡ consume FunctionMetadataType (now (rows .entry)) (now (text .entry)) w ⌝ }
 {
     let w = option_resolution(w, rows, text); // resolution
     let w = argument_sql(w, rows, text); // argument_sql
@@ -161,7 +162,7 @@ pub fn function_metadata_type(w: EntryWriter, rows: &[u32], text: &[u8]) -> Entr
 }
 
 pub fn option_resolution(w: EntryWriter, rows: &[u32], text: &[u8]) -> EntryWriter
-    ensures { λ r. ⌜ r ≡ run OptionResolution (now (rows .entry)) (now (text .entry)) w ⌝ }
+    ensures { λ r. ⌜ r ≡ consume OptionResolution (now (rows .entry)) (now (text .entry)) w ⌝ }
 {
     let w = w.bool(rows, text);
     if w.value != 0 {
@@ -171,23 +172,79 @@ pub fn option_resolution(w: EntryWriter, rows: &[u32], text: &[u8]) -> EntryWrit
 }
 
 pub fn resolution(w: EntryWriter, rows: &[u32], text: &[u8]) -> EntryWriter
-    ensures { λ r. ⌜ r ≡ run Resolution (now (rows .entry)) (now (text .entry)) w ⌝ }
+    ensures { λ r. ⌜ r ≡ consume Resolution (now (rows .entry)) (now (text .entry)) w ⌝ }
 {
     let w = w.str(rows, text); // type_ident
     type_origin(w, rows, text) // type_origin
 }
 
-// The length of a mapping's bytes, or a refusal of 14 to 16.
+// This and the next seven measure, from its rows, the bytes of one part: its length, or a refusal of 14 to 16. Here: a mapping.
 pub fn sql_mapping_len(rows: &[u32], text: &[u8]) -> Length
     ensures { λ r. ⌜ lengthOf r ≡ lengthIn (measured SqlMapping (now (rows .entry)) (now (text .entry))) ⌝ }
+    ensures { λ r. ⌜ ExactLength SqlMapping (now (rows .entry)) (now (text .entry)) (lengthOf r) ⌝ }
 {
     let w = sql_mapping(EntryWriter::new(), rows, text);
     w.finish(rows)
 }
 
-// The length of a metadata record's bytes, or a refusal of 14 to 16.
+// That of an array's mapping.
+pub fn sql_array_mapping_len(rows: &[u32], text: &[u8]) -> Length
+    ensures { λ r. ⌜ lengthOf r ≡ lengthIn (measured SqlArrayMapping (now (rows .entry)) (now (text .entry))) ⌝ }
+    ensures { λ r. ⌜ ExactLength SqlArrayMapping (now (rows .entry)) (now (text .entry)) (lengthOf r) ⌝ }
+{
+    let w = sql_array_mapping(EntryWriter::new(), rows, text);
+    w.finish(rows)
+}
+
+// That of what is returned.
+pub fn returns_len(rows: &[u32], text: &[u8]) -> Length
+    ensures { λ r. ⌜ lengthOf r ≡ lengthIn (measured Returns (now (rows .entry)) (now (text .entry))) ⌝ }
+    ensures { λ r. ⌜ ExactLength Returns (now (rows .entry)) (now (text .entry)) (lengthOf r) ⌝ }
+{
+    let w = returns(EntryWriter::new(), rows, text);
+    w.finish(rows)
+}
+
+// That of an argument-side error.
+pub fn argument_error_len(rows: &[u32], text: &[u8]) -> Length
+    ensures { λ r. ⌜ lengthOf r ≡ lengthIn (measured ArgumentError (now (rows .entry)) (now (text .entry))) ⌝ }
+    ensures { λ r. ⌜ ExactLength ArgumentError (now (rows .entry)) (now (text .entry)) (lengthOf r) ⌝ }
+{
+    let w = argument_error(EntryWriter::new(), rows, text);
+    w.finish(rows)
+}
+
+// That of an argument-side result.
+pub fn argument_sql_len(rows: &[u32], text: &[u8]) -> Length
+    ensures { λ r. ⌜ lengthOf r ≡ lengthIn (measured ArgumentSql (now (rows .entry)) (now (text .entry))) ⌝ }
+    ensures { λ r. ⌜ ExactLength ArgumentSql (now (rows .entry)) (now (text .entry)) (lengthOf r) ⌝ }
+{
+    let w = argument_sql(EntryWriter::new(), rows, text);
+    w.finish(rows)
+}
+
+// That of a return-side error.
+pub fn returns_error_len(rows: &[u32], text: &[u8]) -> Length
+    ensures { λ r. ⌜ lengthOf r ≡ lengthIn (measured ReturnsError (now (rows .entry)) (now (text .entry))) ⌝ }
+    ensures { λ r. ⌜ ExactLength ReturnsError (now (rows .entry)) (now (text .entry)) (lengthOf r) ⌝ }
+{
+    let w = returns_error(EntryWriter::new(), rows, text);
+    w.finish(rows)
+}
+
+// That of a return-side result.
+pub fn return_sql_len(rows: &[u32], text: &[u8]) -> Length
+    ensures { λ r. ⌜ lengthOf r ≡ lengthIn (measured ReturnSql (now (rows .entry)) (now (text .entry))) ⌝ }
+    ensures { λ r. ⌜ ExactLength ReturnSql (now (rows .entry)) (now (text .entry)) (lengthOf r) ⌝ }
+{
+    let w = return_sql(EntryWriter::new(), rows, text);
+    w.finish(rows)
+}
+
+// That of a metadata record.
 pub fn function_metadata_type_len(rows: &[u32], text: &[u8]) -> Length
     ensures { λ r. ⌜ lengthOf r ≡ lengthIn (measured FunctionMetadataType (now (rows .entry)) (now (text .entry))) ⌝ }
+    ensures { λ r. ⌜ ExactLength FunctionMetadataType (now (rows .entry)) (now (text .entry)) (lengthOf r) ⌝ }
 {
     let w = function_metadata_type(EntryWriter::new(), rows, text);
     w.finish(rows)
@@ -197,9 +254,10 @@ pub fn function_metadata_type_len(rows: &[u32], text: &[u8]) -> Length
 pub fn encode_sql_mapping(rows: &[u32], text: &[u8], dest: &mut [u8]) -> Length
     ensures { λ r. ⌜ lengthOf r ≡ lengthIn (write SqlMapping (now (rows .entry)) (now (text .entry)) (length (now (dest .entry)))) ⌝ }
     ensures { λ r. ⌜ now (dest .exit) ≡ written (write SqlMapping (now (rows .entry)) (now (text .entry)) (length (now (dest .entry)))) (now (dest .entry)) ⌝ }
+    ensures { λ r. ⌜ ExactWriting SqlMapping (now (rows .entry)) (now (text .entry)) (now (dest .entry)) (lengthOf r) (now (dest .exit)) ⌝ }
 {
     let length = entry_writer::fitting(sql_mapping_len(rows, text), dest.len());
-    let Length::Bytes { count: _ } = length else {
+    let Length::Counted { count: _ } = length else {
         return length;
     };
     entry_writer::store(rows, text, dest);
@@ -210,9 +268,10 @@ pub fn encode_sql_mapping(rows: &[u32], text: &[u8], dest: &mut [u8]) -> Length
 pub fn encode_function_metadata_type(rows: &[u32], text: &[u8], dest: &mut [u8]) -> Length
     ensures { λ r. ⌜ lengthOf r ≡ lengthIn (write FunctionMetadataType (now (rows .entry)) (now (text .entry)) (length (now (dest .entry)))) ⌝ }
     ensures { λ r. ⌜ now (dest .exit) ≡ written (write FunctionMetadataType (now (rows .entry)) (now (text .entry)) (length (now (dest .entry)))) (now (dest .entry)) ⌝ }
+    ensures { λ r. ⌜ ExactWriting FunctionMetadataType (now (rows .entry)) (now (text .entry)) (now (dest .entry)) (lengthOf r) (now (dest .exit)) ⌝ }
 {
     let length = entry_writer::fitting(function_metadata_type_len(rows, text), dest.len());
-    let Length::Bytes { count: _ } = length else {
+    let Length::Counted { count: _ } = length else {
         return length;
     };
     entry_writer::store(rows, text, dest);

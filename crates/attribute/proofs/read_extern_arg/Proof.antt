@@ -1,9 +1,9 @@
 -- Each known tag, and the rest.
 use native.Mathlib.Omega.{arith}
-use mathlib.Core.List.{_++_}
 use mathlib.Core.Logic.{⊎-elim}
 use mathlib.Core.Path.{_∙_, refl}
-use Rattle.layout.specs.Entities.{ExternArg, bareExternArgs, otherExternArgs}
+use lib.ListN.{drop}
+use Rattle.layout.specs.Entities.{externArgs, ExternArg}
 use Rattle.layout.proofs.Forms.{tags-bare, tags-in, tags-wrong}
 use Rattle.leaf.proofs.Handing.{anew-in, of-two}
 use Rattle.attribute.proofs.read_extern_arg.Statement.{statement}
@@ -35,21 +35,21 @@ same-length c = c .before .before .read-positioning-ref .kept .1 .1 .0 ∙ c .be
 
 returns : tie.Need-returns
 unfolding ExternArg
-returns c = tags-in (bareExternArgs ++ otherExternArgs) 15 _ _ _ _ (c .before .before .before .before .before .before .before .read-u8 .ensures) (c .before .before .before .before .match .keys1) refl (c .before .before .read-positioning-ref .ensures)
+returns c = tags-in externArgs 15 _ _ _ _ (c .before .before .before .before .before .before .before .read-u8 .ensures) (c .before .before .before .before .match .keys1) refl (c .before .before .read-positioning-ref .ensures)
 
 same-length-2 : tie.Need-same-length-2
 same-length-2 c = c .before .before .read-positioning-ref-list .kept .1 .1 .0 ∙ c .before .before .before .before .before .before .before .before .read-u8 .kept .1 .1 .0
 
 returns-2 : tie.Need-returns-2
 unfolding ExternArg
-returns-2 c = tags-in (bareExternArgs ++ otherExternArgs) 18 _ _ _ _ (c .before .before .before .before .before .before .before .before .read-u8 .ensures) (c .before .before .before .before .before .match .keys2) refl (anew-in _ _ _ _ _ _ (c .before .before .before .before .anew .ensures) (c .before .before .read-positioning-ref-list .ensures))
+returns-2 c = tags-in externArgs 18 _ _ _ _ (c .before .before .before .before .before .before .before .before .read-u8 .ensures) (c .before .before .before .before .before .match .keys2) refl (anew-in _ _ _ _ _ _ (c .before .before .before .before .anew .ensures) (c .before .before .read-positioning-ref-list .ensures))
 
 same-length-3 : tie.Need-same-length-3
 same-length-3 c = c .before .before .before .before .before .read-u8 .kept .1 .1 .0
 
 returns-3 : tie.Need-returns-3
 unfolding ExternArg
-returns-3 c = tags-bare 1 12 otherExternArgs _ _ _ (c .before .before .before .before .before .read-u8 .ensures) (omega arith) (omega arith)
+returns-3 c = tags-bare 1 12 (drop 12 externArgs) _ _ _ (c .before .before .before .before .before .read-u8 .ensures) (omega arith) (omega arith)
 
 same-length-4 : tie.Need-same-length-4
 same-length-4 c = c .before .before .read-str .kept .1 .1 .0 ∙ c .before .before .before .before .before .before .before .before .before .before .read-u8 .kept .1 .1 .0
@@ -59,7 +59,7 @@ unfolding ExternArg
 returns-4 c =
     let e = c .before .before .before .before .before .before .before .before .before .before .read-u8 .ensures in
     let q = c .before .before .read-str .ensures in
-    of-two 13 _ (c .before .before .before .before .before .if2 .left) (c .before .before .before .before .if3 .taken) (λ h. tags-in (bareExternArgs ++ otherExternArgs) 13 _ _ _ _ e h refl q) (λ h. tags-in (bareExternArgs ++ otherExternArgs) 14 _ _ _ _ e h refl q)
+    of-two 13 _ (c .before .before .before .before .before .if2 .left) (c .before .before .before .before .if3 .taken) (λ h. tags-in externArgs 13 _ _ _ _ e h refl q) (λ h. tags-in externArgs 14 _ _ _ _ e h refl q)
 
 same-length-5 : tie.Need-same-length-5
 same-length-5 c = c .before .before .read-str2 .kept .1 .1 .0 ∙ c .before .before .before .before .before .before .before .before .before .before .before .read-u8 .kept .1 .1 .0
@@ -69,14 +69,14 @@ unfolding ExternArg
 returns-5 c =
     let e = c .before .before .before .before .before .before .before .before .before .before .before .read-u8 .ensures in
     let q = c .before .before .read-str2 .ensures in
-    of-two 16 (c .before .before .before .before .before .before .before .before .before .before .before .read-u8 .result .value) (omega (arith, c .before .before .before .before .before .before .before .before .match .rest)) (c .before .before .before .before .if4 .taken) (λ h. tags-in (bareExternArgs ++ otherExternArgs) 16 _ _ _ _ e h refl q) (λ h. tags-in (bareExternArgs ++ otherExternArgs) 17 _ _ _ _ e h refl q)
+    of-two 16 (c .before .before .before .before .before .before .before .before .before .before .before .read-u8 .result .value) (omega (arith, c .before .before .before .before .before .before .before .before .match .rest)) (c .before .before .before .before .if4 .taken) (λ h. tags-in externArgs 16 _ _ _ _ e h refl q) (λ h. tags-in externArgs 17 _ _ _ _ e h refl q)
 
 same-length-6 : tie.Need-same-length-6
 same-length-6 c = c .before .before .before .before .before .read-u8 .kept .1 .1 .0
 
 returns-6 : tie.Need-returns-6
 unfolding ExternArg
-returns-6 c = tags-wrong (bareExternArgs ++ otherExternArgs) _ _ _ _ (c .before .before .before .before .before .read-u8 .ensures) (⊎-elim (λ w. omega arith) (λ w. omega arith) (c .before .if1 .came)) (rw (c .refused .ensures))
+returns-6 c = tags-wrong externArgs _ _ _ _ (c .before .before .before .before .before .read-u8 .ensures) (⊎-elim (λ w. omega arith) (λ w. omega arith) (c .before .if1 .came)) (rw (c .refused .ensures))
 
 pub read-extern-arg-spec : {M : Type 1} → statement M
 read-extern-arg-spec =

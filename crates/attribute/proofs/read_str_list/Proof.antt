@@ -8,7 +8,7 @@ use borrow.Author.Needs.{needs}
 use Rattle.layout.proofs.Forms.{list-in, loop-on, loop-end}
 use Rattle.leaf.proofs.Still.{loop-refused}
 use Rattle.leaf.specs.Run.{run}
-use Rattle.leaf.specs.State.{state}
+use Rattle.leaf.specs.State.{readState}
 use Rattle.layout.specs.Layout.{text}
 use Rattle.layout.specs.Entities.{StrList}
 use Rattle.layout.specs.Forms.{times}
@@ -16,7 +16,7 @@ use Rattle.attribute.proofs.read_str_list.Statement.{statement}
 use Rattle.attribute.proofs.read_str_list.Tie as tie
 
 abbrev Inv-loop : tie.InvT-loop
-Inv-loop s t₀ c₀ count i₀ t c i = (length t ≡ length t₀) × (run (times count text) s (state c₀ t₀) ≡ run (times (count - i) text) s (state c t))
+Inv-loop s t₀ c₀ count i₀ t c i = (length t ≡ length t₀) × (run (times count text) s (readState c₀ t₀) ≡ run (times (count - i) text) s (readState c t))
 
 abbrev μ-loop : tie.MeasureT-loop
 μ-loop s t₀ c₀ count i₀ t c i = count - i

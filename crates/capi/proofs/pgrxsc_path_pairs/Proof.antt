@@ -1,7 +1,6 @@
 -- The report, in numbers.
 use Rattle.capi.specs.Numbers.{reportNumbers, pairsIn}
 use mathlib.Core.Path.{ap, _∙_}
-use borrow.Author.Needs.{needs}
 use Rattle.capi.proofs.pgrxsc_path_pairs.Statement.{statement}
 use Rattle.capi.proofs.pgrxsc_path_pairs.Tie as tie
 

@@ -1,5 +1,8 @@
 -- The answer of the reading, in numbers.
-use Rattle.capi.proofs.Numbers.{told}
+use native.Mathlib.Omega.{arith}
+use denote.Ref.{now}
+use Rattle.layout.specs.Entities.{Entity}
+use Rattle.capi.proofs.Numbers.{value-told}
 use borrow.Author.Needs.{needs}
 use Rattle.capi.proofs.pgrxsc_read_payload.Statement.{statement}
 use Rattle.capi.proofs.pgrxsc_read_payload.Tie as tie
@@ -14,7 +17,9 @@ same-length : tie.Need-same-length
 same-length c = search needs
 
 returns : tie.Need-returns
-returns c = told _ (c .before .before .before .decode-entity .result) _ _ (c .answer-numbers .ensures) (c .before .before .before .decode-entity .ensures .0)
+returns c =
+    let a = c .before .before .before .before .before .before .before .args in
+    value-told Entity 1 (now (a .bytes)) (now (a .table)) (λ i h. omega (arith, c .before .before .before .before .before .before .shared-slice-known .given i)) _ (c .before .before .before .decode-entity .result) _ (c .answer-numbers .ensures) (c .before .before .before .decode-entity .ensures .0)
 
 pub pgrxsc-read-payload-spec : {M : Type 1} → statement M
 pgrxsc-read-payload-spec =

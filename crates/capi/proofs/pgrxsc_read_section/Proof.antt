@@ -1,5 +1,7 @@
 -- The answer of the reading, in numbers.
-use Rattle.capi.proofs.Numbers.{told}
+use native.Mathlib.Omega.{arith}
+use denote.Ref.{now}
+use Rattle.capi.proofs.Numbers.{section-told}
 use borrow.Author.Needs.{needs}
 use Rattle.capi.proofs.pgrxsc_read_section.Statement.{statement}
 use Rattle.capi.proofs.pgrxsc_read_section.Tie as tie
@@ -14,7 +16,9 @@ same-length : tie.Need-same-length
 same-length c = search needs
 
 returns : tie.Need-returns
-returns c = told _ (c .before .before .before .decode-entities .result) _ _ (c .answer-numbers .ensures) (c .before .before .before .decode-entities .ensures .0)
+returns c =
+    let a = c .before .before .before .before .before .before .before .args in
+    section-told (now (a .bytes)) (now (a .table)) (λ i h. omega (arith, c .before .before .before .before .before .before .shared-slice-known .given i)) _ (c .before .before .before .decode-entities .result) _ (c .answer-numbers .ensures) (c .before .before .before .decode-entities .ensures .0)
 
 pub pgrxsc-read-section-spec : {M : Type 1} → statement M
 pgrxsc-read-section-spec =

@@ -1,6 +1,9 @@
 -- The answer of the writing, in numbers.
 use mathlib.Core.Path.{ap, _∙_}
+use denote.Ref.{now}
+use Rattle.layout.specs.Entities.{SqlMapping}
 use Rattle.capi.specs.Numbers.{lengthNumbers}
+use Rattle.capi.proofs.Numbers.{writing-told}
 use borrow.Author.Needs.{needs}
 use Rattle.capi.proofs.pgrxsc_write_mapping.Statement.{statement}
 use Rattle.capi.proofs.pgrxsc_write_mapping.Tie as tie
@@ -15,7 +18,10 @@ same-length : tie.Need-same-length
 same-length c = search needs
 
 returns : tie.Need-returns
-returns c = (c .length-numbers .ensures ∙ ap lengthNumbers (c .before .before .before .encode-sql-mapping .ensures .0), c .before .before .before .encode-sql-mapping .ensures .1)
+returns c =
+    let a = c .before .before .before .before .before .before .before .before .args in
+    let e = c .before .before .before .encode-sql-mapping .ensures in
+    (c .length-numbers .ensures ∙ ap lengthNumbers (e .0), (e .1 .0, writing-told SqlMapping (now (a .rows)) (now (a .text)) (now (a .dest)) _ _ _ (c .length-numbers .ensures) (e .1 .1)))
 
 pub pgrxsc-write-mapping-spec : {M : Type 1} → statement M
 pgrxsc-write-mapping-spec =

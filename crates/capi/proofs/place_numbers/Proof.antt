@@ -1,6 +1,8 @@
 -- In the section, in the buffer, or refused.
 use mathlib.Core.Path.{sym, ap}
 use borrow.Author.Needs.{needs}
+use Rattle.parts.specs.declared.SqlPlace.{SqlPlace}
+use Rattle.parts.specs.SqlText.{sqlAnswerOf}
 use Rattle.capi.specs.Numbers.{placeNumbers}
 use Rattle.capi.proofs.place_numbers.Statement.{statement}
 use Rattle.capi.proofs.place_numbers.Tie as tie
@@ -21,13 +23,13 @@ cast-t12 : tie.Need-cast-t12
 cast-t12 c = search needs
 
 returns : tie.Need-returns
-returns c = sym (ap placeNumbers (c .before .place .given .1))
+returns c = sym (ap (λ (x : SqlPlace). placeNumbers (sqlAnswerOf x)) (c .before .place .given .1))
 
 returns-2 : tie.Need-returns-2
-returns-2 c = sym (ap placeNumbers (c .before .place2 .given .1))
+returns-2 c = sym (ap (λ (x : SqlPlace). placeNumbers (sqlAnswerOf x)) (c .before .place2 .given .1))
 
 returns-3 : tie.Need-returns-3
-returns-3 c = sym (ap placeNumbers (c .before .place3 .given .1))
+returns-3 c = sym (ap (λ (x : SqlPlace). placeNumbers (sqlAnswerOf x)) (c .before .place3 .given .1))
 
 pub place-numbers-spec : {M : Type 1} → statement M
 place-numbers-spec =

@@ -8,14 +8,14 @@ use borrow.Author.Needs.{needs}
 use Rattle.layout.proofs.Forms.{list-in, loop-on, loop-end}
 use Rattle.leaf.proofs.Still.{loop-refused}
 use Rattle.leaf.specs.Run.{run}
-use Rattle.leaf.specs.State.{state}
+use Rattle.leaf.specs.State.{readState}
 use Rattle.layout.specs.Entities.{SqlDeclaredList, SqlDeclared}
 use Rattle.layout.specs.Forms.{times}
 use Rattle.declared.proofs.read_sql_declared_list.Statement.{statement}
 use Rattle.declared.proofs.read_sql_declared_list.Tie as tie
 
 abbrev Inv-loop : tie.InvT-loop
-Inv-loop s t₀ c₀ count i₀ t c i = (length t ≡ length t₀) × (run (times count SqlDeclared) s (state c₀ t₀) ≡ run (times (count - i) SqlDeclared) s (state c t))
+Inv-loop s t₀ c₀ count i₀ t c i = (length t ≡ length t₀) × (run (times count SqlDeclared) s (readState c₀ t₀) ≡ run (times (count - i) SqlDeclared) s (readState c t))
 
 abbrev μ-loop : tie.MeasureT-loop
 μ-loop s t₀ c₀ count i₀ t c i = count - i

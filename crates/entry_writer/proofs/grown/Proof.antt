@@ -3,7 +3,7 @@ use Prim.Native.Nat.{_+_}
 use native.Mathlib.Omega.{arith}
 use borrow.Author.Needs.{needs}
 use borrow.Author.Tests.{le-leb, lt-leb}
-use Rattle.layout.specs.Alone.{limit}
+use Rattle.layout.specs.Answers.{limit}
 use Rattle.entry_writer.proofs.grown.Statement.{statement}
 use Rattle.entry_writer.proofs.grown.Tie as tie
 

@@ -7,8 +7,9 @@ use lib.ListN.{length}
 use borrow.Author.Needs.{needs}
 use denote.Ref.{now}
 use Rattle.layout.specs.Answers.{wholeRows}
-use Rattle.entry_writer.specs.Stored.{storedFrom, stored}
+use Rattle.entry_writer.specs.Private.{storedFrom, stored}
 use Rattle.entry_writer.proofs.Row.{stored-step, stored-stop, stored-done}
+use Rattle.entry_writer.proofs.Stored.{stores}
 use Rattle.entry_writer.proofs.store.Statement.{statement}
 use Rattle.entry_writer.proofs.store.Tie as tie
 
@@ -34,7 +35,7 @@ returns : tie.Need-returns Inv-loop μ-loop
 returns c =
     let a = c .before .before .before .before .before .before .before .args in
     let x = c .before .before .before .loop in
-    sym (x .inv .2 ∙ stored-stop (now (a .rows)) (now (a .text)) (wholeRows (now (a .rows))) (x .row) (x .at) _ (c .before .before .loop-test .taken) _ (c .before .row-len .ensures) (omega (arith, x .inv .0)))
+    λ ls g k f. sym (x .inv .2 ∙ stored-stop (now (a .rows)) (now (a .text)) (wholeRows (now (a .rows))) (x .row) (x .at) _ (c .before .before .loop-test .taken) _ (c .before .row-len .ensures) (omega (arith, x .inv .0))) ∙ stores (now (a .rows)) (now (a .text)) (now (a .dest)) ls g k f
 
 store-row-requires : tie.Need-store-row-requires Inv-loop μ-loop
 store-row-requires c κs = (c .before .before .before .loop-test .taken, omega (arith, c .before .before .row-len .ensures, c .before .if1 .left, c .before .before .before .before .loop .inv .0))
@@ -64,7 +65,7 @@ returns-2 : tie.Need-returns-2 Inv-loop μ-loop
 returns-2 c =
     let a = c .before .before .before .before .before .args in
     let x = c .before .loop in
-    sym (x .inv .2 ∙ stored-done (now (a .rows)) (now (a .text)) (wholeRows (now (a .rows))) (x .row) (x .at) _ (c .loop-test .left))
+    λ ls g k f. sym (x .inv .2 ∙ stored-done (now (a .rows)) (now (a .text)) (wholeRows (now (a .rows))) (x .row) (x .at) _ (c .loop-test .left)) ∙ stores (now (a .rows)) (now (a .text)) (now (a .dest)) ls g k f
 
 pub store-spec : {M : Type 1} → statement M
 store-spec =

@@ -5,7 +5,7 @@ use borrow.Author.Needs.{needs}
 use Rattle.leaf.specs.Finish.{resultOf}
 use Rattle.listing.specs.Listing.{lentTable}
 use Rattle.listing.specs.Private.{Place}
-use Rattle.listing.proofs.Lines.{word-put, long-listing, read-listing, listed}
+use Rattle.listing.proofs.Lines.{word-put, long-listing, read-listing, rows-there, listed}
 use Rattle.listing.proofs.Places.{place-behind}
 use Rattle.section.specs.Section.{reading}
 use Rattle.listing.proofs.listing.Statement.{statement}
@@ -42,7 +42,10 @@ slice-aggregate-put-answer : tie.Need-slice-aggregate-put-answer
 slice-aggregate-put-answer c = search needs
 
 put-answer-requires : tie.Need-put-answer-requires
-put-answer-requires c κs = search needs
+put-answer-requires c κs =
+    let a = c .before .before .before .before .before .before .before .before .before .args in
+    let d = c .before .before .before .decode-entities in
+    (search needs, rows-there (a .input .now) _ (d .result) _ (d .kept .1 .0) (d .ensures .1))
 
 same-length-2 : tie.Need-same-length-2
 same-length-2 c = search needs

@@ -2,11 +2,12 @@
 use native.Mathlib.Omega.{arith}
 use mathlib.Core.Path.{sym, ap, _∙_}
 use borrow.Author.Needs.{needs}
-use Rattle.listing.proofs.Lines.{accept-put, refuse-put}
-use Rattle.listing.specs.Private.{place, putAll}
-use Rattle.listing.specs.Listing.{lines}
+use Rattle.layout.specs.Answers.{wholeRows}
 use Rattle.leaf.specs.Finish.{answerOf}
 use Rattle.leaf.specs.declared.Answer.{Answer}
+use Rattle.listing.specs.Listing.{lines}
+use Rattle.listing.specs.Private.{place, putAll}
+use Rattle.listing.proofs.Lines.{accept-put, refuse-put, counted}
 use Rattle.listing.proofs.put_answer.Statement.{statement}
 use Rattle.listing.proofs.put_answer.Tie as tie
 
@@ -19,11 +20,11 @@ slice-aggregate-put-counts c = search needs
 put-counts-requires : tie.Need-put-counts-requires
 put-counts-requires c κs = search needs
 
-listed-rows-requires : tie.Need-listed-rows-requires
-listed-rows-requires c κs = search needs
-
 put-rows-requires : tie.Need-put-rows-requires
-put-rows-requires c κs = search needs
+put-rows-requires c κs =
+    let a = c .before .before .before .before .before .before .before .before .before .before .before in
+    let h = counted (a .args .answer) _ _ (wholeRows (a .args .table .now)) (c .before .before .before .before .before .before .before .answer .given .1) (a .pre .1) in
+    (omega arith, omega (arith, a .pre .0, c .before .before .before .put-counts .ensures .1))
 
 enum-known-answer-2 : tie.Need-enum-known-answer-2
 enum-known-answer-2 c = search needs
@@ -42,10 +43,12 @@ same-length c = search needs
 
 returns : tie.Need-returns
 returns c =
-    let a = c .before .before .before .before .before .before .before .before .before .before .before .before .before .before .before .args in (
-      accept-put _ _ _ (a .table .now) _ _ _ (c .before .before .before .before .before .before .before .put-counts .ensures .0) (c .before .before .before .listed-rows .ensures) (c .before .before .put-rows .ensures .0)
-          ∙ ap (λ (x : Answer). putAll (lines (answerOf x) (a .table .now)) (place (a .out .now) 0)) (sym (c .before .before .before .before .before .before .before .before .before .before .before .answer .given .1)),
-      omega (arith, c .before .before .before .before .before .before .before .before .before .before .before .before .before .before .before .pre, c .before .before .before .before .before .before .before .put-counts .ensures .1, c .before .before .before .listed-rows .ensures, c .before .before .put-rows .ensures .1),
+    let a = c .before .before .before .before .before .before .before .before .before .before .before .before .before .before in
+    let e = c .before .before .before .before .before .before .before .before .before .before .answer .given .1 in
+    let h = counted (a .args .answer) _ _ (wholeRows (a .args .table .now)) e (a .pre .1) in (
+      accept-put _ _ (a .args .table .now) _ _ _ (c .before .before .before .before .before .before .put-counts .ensures .0) (c .before .before .put-rows .ensures .0)
+          ∙ ap (λ (x : Answer). putAll (lines (answerOf x) (a .args .table .now)) (place (a .args .out .now) 0)) (sym e),
+      omega (arith, a .pre .0, c .before .before .before .before .before .before .put-counts .ensures .1, c .before .before .put-rows .ensures .1),
     )
 
 same-length-2 : tie.Need-same-length-2
@@ -66,7 +69,6 @@ put-answer-spec =
     enum-known-answer
     slice-aggregate-put-counts
     put-counts-requires
-    listed-rows-requires
     put-rows-requires
     enum-known-answer-2
     slice-aggregate-put-counts-2

@@ -9,14 +9,14 @@ use Rattle.layout.proofs.Forms.{list-in, loop-on, loop-end}
 use Rattle.leaf.proofs.Handing.{anew-in}
 use Rattle.leaf.proofs.Still.{loop-refused}
 use Rattle.leaf.specs.Run.{run}
-use Rattle.leaf.specs.State.{state}
+use Rattle.leaf.specs.State.{readState}
 use Rattle.layout.specs.Entities.{SqlMappingList, SqlMapping}
 use Rattle.layout.specs.Forms.{times}
 use Rattle.metadata.proofs.read_sql_mapping_list.Statement.{statement}
 use Rattle.metadata.proofs.read_sql_mapping_list.Tie as tie
 
 abbrev Inv-loop : tie.InvT-loop
-Inv-loop s t₀ c₀ count i₀ t c i = (length t ≡ length t₀) × (run (times count SqlMapping) s (state c₀ t₀) ≡ run (times (count - i) SqlMapping) s (state c t))
+Inv-loop s t₀ c₀ count i₀ t c i = (length t ≡ length t₀) × (run (times count SqlMapping) s (readState c₀ t₀) ≡ run (times (count - i) SqlMapping) s (readState c t))
 
 abbrev μ-loop : tie.MeasureT-loop
 μ-loop s t₀ c₀ count i₀ t c i = count - i

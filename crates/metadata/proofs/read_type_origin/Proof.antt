@@ -2,9 +2,8 @@
 use native.Mathlib.Omega.{arith}
 use mathlib.Core.List.{[]}
 use mathlib.Core.Logic.{⊎-elim}
-use Rattle.layout.specs.Entities.{TypeOrigin}
+use Rattle.layout.specs.Entities.{typeOrigins, TypeOrigin}
 use Rattle.layout.proofs.Forms.{tags-bare, tags-wrong}
-use Rattle.layout.specs.Forms.{bare}
 use Rattle.metadata.proofs.read_type_origin.Statement.{statement}
 use Rattle.metadata.proofs.read_type_origin.Tie as tie
 
@@ -26,7 +25,7 @@ same-length-2 c = c .before .before .before .before .read-u8 .kept .1 .1 .0
 
 returns-2 : tie.Need-returns-2
 unfolding TypeOrigin
-returns-2 c = tags-wrong (bare 1 2) _ _ _ _ (c .before .before .before .before .read-u8 .ensures) (⊎-elim (λ w. omega arith) (λ w. omega arith) (c .before .if1 .came)) (rw (c .refused .ensures))
+returns-2 c = tags-wrong typeOrigins _ _ _ _ (c .before .before .before .before .read-u8 .ensures) (⊎-elim (λ w. omega arith) (λ w. omega arith) (c .before .if1 .came)) (rw (c .refused .ensures))
 
 pub read-type-origin-spec : {M : Type 1} → statement M
 read-type-origin-spec =

@@ -1,5 +1,4 @@
 -- What stands where, told as a number and a place.
-use mathlib.Core.Path.{sym, _∙_}
 use borrow.Author.Needs.{needs}
 use Rattle.parts.specs.SqlText.{sqlText}
 use Rattle.parts.proofs.SqlText.{told}
@@ -22,19 +21,19 @@ same-length : tie.Need-same-length
 same-length c = search needs
 
 returns : tie.Need-returns
-returns c = let e = c .before .before .before .before .before .place-sql-text .ensures in (e .1, told (sqlText _ _ _) _ (sym (c .before .found .given .1) ∙ e .0))
+returns c = let e = c .before .before .before .before .before .place-sql-text .ensures in (e .1, told (sqlText _ _ _) _ _ (c .before .found .given .1) (e .0))
 
 same-length-2 : tie.Need-same-length-2
 same-length-2 c = search needs
 
 returns-2 : tie.Need-returns-2
-returns-2 c = let e = c .before .before .before .before .place-sql-text .ensures in (e .1, told (sqlText _ _ _) _ (sym (c .enum-told .given .1) ∙ e .0))
+returns-2 c = let e = c .before .before .before .before .place-sql-text .ensures in (e .1, told (sqlText _ _ _) _ _ (c .enum-told .given .1) (e .0))
 
 same-length-3 : tie.Need-same-length-3
 same-length-3 c = search needs
 
 returns-3 : tie.Need-returns-3
-returns-3 c = let e = c .before .before .before .before .place-sql-text .ensures in (e .1, told (sqlText _ _ _) _ (sym (c .enum-told2 .given .1) ∙ e .0))
+returns-3 c = let e = c .before .before .before .before .place-sql-text .ensures in (e .1, told (sqlText _ _ _) _ _ (c .enum-told2 .given .1) (e .0))
 
 pub fill-sql-text-spec : {M : Type 1} → statement M
 fill-sql-text-spec =

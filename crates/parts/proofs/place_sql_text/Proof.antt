@@ -2,7 +2,7 @@
 use native.Mathlib.Omega.{arith}
 use mathlib.Core.Path.{ap, _∙_}
 use borrow.Author.Needs.{needs}
-use Rattle.parts.specs.SqlText.{filled, stands}
+use Rattle.parts.specs.SqlText.{filled, sqlAnswer}
 use Rattle.parts.proofs.Numeric.{text-length, text-taken, text-fits, text-pasted}
 use Rattle.parts.proofs.place_sql_text.Statement.{statement}
 use Rattle.parts.proofs.place_sql_text.Tie as tie
@@ -35,10 +35,10 @@ paste-requires : tie.Need-paste-requires
 paste-requires c κs = tt
 
 returns : tie.Need-returns
-returns c = let h = rw (c .before .found .given .1) at (c .before .before .before .find-sql-text .ensures) in (ap stands (h .0), ap (filled _) (h .0))
+returns c = let h = rw (c .before .found .given .1) at (c .before .before .before .find-sql-text .ensures) in (ap sqlAnswer (h .0), ap (filled _) (h .0))
 
 returns-2 : tie.Need-returns-2
-returns-2 c = let h = rw (c .before .found2 .given .1) at (c .before .before .before .find-sql-text .ensures) in (ap stands (h .0), ap (filled _) (h .0))
+returns-2 c = let h = rw (c .before .found2 .given .1) at (c .before .before .before .find-sql-text .ensures) in (ap sqlAnswer (h .0), ap (filled _) (h .0))
 
 same-length : tie.Need-same-length
 same-length c = search needs
@@ -47,7 +47,7 @@ returns-3 : tie.Need-returns-3
 returns-3 c =
     let h = rw (c .before .before .before .before .before .before .before .before .found3 .given .1) at (c .before .before .before .before .before .before .before .before .before .before .find-sql-text .ensures) in
     let e = c .before .before .before .before .before .before .numeric-sql-string .ensures in
-    (rw (text-length _ _ (e .0)) (ap stands (h .0)), c .before .before .paste .ensures ∙ text-pasted _ _ (e .0) _ (h .1) (e .1) ∙ ap (filled _) (h .0))
+    (rw (text-length _ _ (e .0)) (ap sqlAnswer (h .0)), c .before .before .paste .ensures ∙ text-pasted _ _ (e .0) _ (h .1) (e .1) ∙ ap (filled _) (h .0))
 
 pub place-sql-text-spec : {M : Type 1} → statement M
 place-sql-text-spec =

@@ -45,10 +45,10 @@ is-utf8-requires : tie.Need-is-utf8-requires
 is-utf8-requires c κs = search needs
 
 returns-5 : tie.Need-returns-5
-returns-5 c = sym (ap numberIn (is-text _ _ (c .before .before .before .before .before .before .before .before .before .if1 .left) (c .before .before .before .before .before .before .before .if2 .left) (omega arith) (c .before .before .before .before .before .before .before .before .before .before .before .args .row .offset + c .before .before .before .before .before .before .before .before .before .before .before .args .row .value - c .before .before .before .before .before .before .before .before .before .before .before .args .row .offset) (omega arith) (sym (c .before .is-utf8 .ensures) ∙ c .if5 .taken)))
+returns-5 c = sym (ap numberIn (is-text _ _ (c .before .before .before .before .before .before .before .before .before .if1 .left) (c .before .before .before .before .before .before .before .if2 .left) (omega arith) (c .before .before .before .before .before .before .before .before .before .before .before .args .row .offset + c .before .before .before .before .before .before .before .before .before .before .before .args .row .value - c .before .before .before .before .before .before .before .before .before .before .before .args .row .offset) (omega arith) (sym (c .before .is-utf8 .ensures .0) ∙ c .if5 .taken)))
 
 returns-6 : tie.Need-returns-6
-returns-6 c = sym (ap numberIn (not-utf8 _ _ (c .before .before .before .before .before .before .before .before .before .if1 .left) (c .before .before .before .before .before .before .before .if2 .left) (omega arith) (c .before .before .before .before .before .before .before .before .before .before .before .args .row .offset + c .before .before .before .before .before .before .before .before .before .before .before .args .row .value - c .before .before .before .before .before .before .before .before .before .before .before .args .row .offset) (omega arith) (sym (c .before .is-utf8 .ensures) ∙ c .if5 .left)))
+returns-6 c = sym (ap numberIn (not-utf8 _ _ (c .before .before .before .before .before .before .before .before .before .if1 .left) (c .before .before .before .before .before .before .before .if2 .left) (omega arith) (c .before .before .before .before .before .before .before .before .before .before .before .args .row .offset + c .before .before .before .before .before .before .before .before .before .before .before .args .row .value - c .before .before .before .before .before .before .before .before .before .before .before .args .row .offset) (omega arith) (sym (c .before .is-utf8 .ensures .0) ∙ c .if5 .left)))
 
 pub row-refusal-spec : {M : Type 1} → statement M
 row-refusal-spec =

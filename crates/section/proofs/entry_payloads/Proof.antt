@@ -1,15 +1,20 @@
--- From the section's start.
-use Rattle.section.proofs.Entries.{walked-start}
+-- Too many bytes, or the framing from the section's start.
+use native.Mathlib.Omega.{arith}
+use mathlib.Core.Path.{refl}
 use denote.Ref.{now}
-use borrow.Author.Needs.{needs}
+use Rattle.section.proofs.Decode.{framing-limit, framing-alone}
+use Rattle.section.proofs.Entries.{walked-start}
 use Rattle.section.proofs.entry_payloads.Statement.{statement}
 use Rattle.section.proofs.entry_payloads.Tie as tie
 
-framing-from-requires : tie.Need-framing-from-requires
-framing-from-requires c κs = walked-start (now (c .before .args .section))
-
 returns : tie.Need-returns
-returns c = search needs
+returns c = framing-limit (now (c .before .before .args .section)) (λ i h. omega (arith, c .before .shared-slice-known .given i)) _ (c .if1 .taken) refl
+
+framing-from-requires : tie.Need-framing-from-requires
+framing-from-requires c κs = walked-start (now (c .before .before .args .section))
+
+returns-2 : tie.Need-returns-2
+returns-2 c = framing-alone (now (c .before .before .before .args .section)) (λ i h. omega (arith, c .before .before .shared-slice-known .given i)) _ (c .before .if1 .left) (c .framing-from .ensures)
 
 pub entry-payloads-spec : {M : Type 1} → statement M
-entry-payloads-spec = tie.close (tie.spec framing-from-requires returns)
+entry-payloads-spec = tie.close (tie.spec returns framing-from-requires returns-2)

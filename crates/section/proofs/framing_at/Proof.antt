@@ -1,9 +1,7 @@
 -- The padding, or a refusal.
 use Rattle.section.proofs.Entries.{ends-padding, ends-few, ends-zero, ends-long, none-long}
 use denote.Ref.{now}
-use mathlib.Core.Path.{sym, _∙_}
 use native.Mathlib.Omega.{arith}
-use borrow.Author.Needs.{needs}
 use Rattle.section.proofs.framing_at.Statement.{statement}
 use Rattle.section.proofs.framing_at.Tie as tie
 

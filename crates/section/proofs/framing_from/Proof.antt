@@ -3,7 +3,7 @@ use Rattle.section.proofs.Entries.{end-walked, none-here}
 use Rattle.section.specs.Private.{Walked, entryEnd}
 use denote.Ref.{now}
 use lib.ListN.{length}
-use mathlib.Core.Path.{_≡_, sym, _∙_}
+use mathlib.Core.Path.{_≡_}
 use native.Mathlib.Omega.{arith}
 use Prim.Native.Nat.{_-_}
 use Rattle.section.proofs.framing_from.Statement.{statement}

@@ -1,7 +1,6 @@
 -- Another length, another number, or the last byte.
 use Rattle.section.proofs.Sentinel.{other-length, other-first, other-second, by-last}
 use denote.Ref.{now}
-use native.Mathlib.Omega.{arith}
 use borrow.Author.Needs.{needs}
 use Rattle.section.proofs.is_sentinel.Statement.{statement}
 use Rattle.section.proofs.is_sentinel.Tie as tie

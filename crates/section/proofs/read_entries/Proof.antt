@@ -1,11 +1,11 @@
 -- From entry to entry, as long as whole ones stand there.
-use Rattle.section.proofs.Entries.{Come, come-start, come-length, entry-fits, few-entities, leads, come-end, none-here, whole-here}
+use Rattle.section.proofs.Entries.{Come, come-start, come-length, entry-fits, few-entities, leads, come-end}
 use Rattle.section.specs.Private.{stage, staged, entryEnd}
 use Rattle.leaf.specs.declared.Cursor.{Cursor}
-use Rattle.leaf.specs.State.{state}
+use Rattle.leaf.specs.State.{readState}
 use denote.Ref.{now}
 use lib.ListN.{length}
-use mathlib.Core.Path.{_≡_, sym, ap, _∙_}
+use mathlib.Core.Path.{_≡_, ap, _∙_}
 use native.Mathlib.Omega.{arith}
 use Prim.Native.Nat.{_-_}
 use Rattle.section.proofs.read_entries.Statement.{statement}
@@ -24,7 +24,7 @@ entry-end-requires : tie.Need-entry-end-requires Inv-loop μ-loop
 entry-end-requires c κs = omega arith
 
 loop-holds : tie.Need-loop-holds Inv-loop μ-loop
-loop-holds c = (come-start (now (c .before .before .before .before .args .s)) (now (c .before .before .before .before .args .t)) (c .before .before .before .before .pre .0) _ (ap (λ (x : Cursor). stage (state x (now (c .before .before .before .before .args .t))) 0) (c .before .new .ensures)), c .entry-end .ensures)
+loop-holds c = (come-start (now (c .before .before .before .before .args .s)) (now (c .before .before .before .before .args .t)) (c .before .before .before .before .pre .0) _ (ap (λ (x : Cursor). stage (readState x (now (c .before .before .before .before .args .t))) 0) (c .before .new .ensures)), c .entry-end .ensures)
 
 read-entry-requires : tie.Need-read-entry-requires Inv-loop μ-loop
 read-entry-requires c κs = (entry-fits (now (c .before .before .before .before .before .before .before .args .s)) (now (c .before .before .before .before .before .before .before .args .t)) (c .before .before .before .before .before .before .before .pre .1) (c .before .before .before .before .before .before .before .pre .0) (c .before .before .loop .at) (staged (c .before .before .loop .p) (c .before .before .loop .t)) (c .before .before .loop .inv .0) (c .before .before .loop .end) (c .before .before .loop .inv .1) (c .before .loop-test .taken), (c .before .before .before .before .before .before .before .pre .0, (few-entities (now (c .before .before .before .before .before .before .before .args .s)) (now (c .before .before .before .before .before .before .before .args .t)) (c .before .before .before .before .before .before .before .pre .1) (c .before .before .before .before .before .before .before .pre .0) (c .before .before .loop .at) (staged (c .before .before .loop .p) (c .before .before .loop .t)) (c .before .before .loop .inv .0) (c .before .before .loop .end) (c .before .before .loop .inv .1) (c .before .loop-test .taken), c .before .before .before .before .before .before .before .pre .1)))

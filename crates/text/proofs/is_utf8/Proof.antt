@@ -6,6 +6,7 @@ use lib.ListN.{length, take}
 use lib.Seq.{take-length}
 use borrow.Author.Needs.{needs}
 use Rattle.text.specs.Walk.{utf8}
+use Rattle.text.proofs.Exact.{both}
 use Rattle.text.proofs.Blocks.{ascii-utf8, answered}
 use Rattle.text.proofs.is_utf8.Statement.{statement}
 use Rattle.text.proofs.is_utf8.Tie as tie
@@ -22,7 +23,7 @@ ascii-prefix-requires c κs = tt
 returns : tie.Need-returns
 returns c =
     let s = c .before .before .before .before .args .s .now in
-    ascii-utf8 s (rw (take-length s, c .if1 .taken) at (c .before .ascii-prefix .ensures .1))
+    both s (ascii-utf8 s (rw (take-length s, c .if1 .taken) at (c .before .ascii-prefix .ensures .1)))
 
 slice-aggregate-walk-from : tie.Need-slice-aggregate-walk-from
 slice-aggregate-walk-from c = sym (length-whole (c .before .before .before .before .before .args .s .now))
@@ -33,7 +34,7 @@ walk-from-requires c κs = search needs
 returns-2 : tie.Need-returns-2
 returns-2 c =
     let a = c .before .before .before .ascii-prefix .ensures in
-    answered _ _ _ (a .0) (a .1) (c .walk-from .ensures) ∙ ap utf8 (take-length (c .before .before .before .before .before .before .args .s .now))
+    both (c .before .before .before .before .before .before .args .s .now) (answered _ _ _ (a .0) (a .1) (c .walk-from .ensures) ∙ ap utf8 (take-length (c .before .before .before .before .before .before .args .s .now)))
 
 pub is-utf8-spec : {M : Type 1} → statement M
 is-utf8-spec =

@@ -4,13 +4,13 @@ use native.Mathlib.Omega.{arith}
 use lib.ListN.{length}
 use borrow.Author.Tests.{not-false}
 use borrow.Author.Needs.{needs}
-use Rattle.text.specs.Private.{Walks}
+use Rattle.text.specs.Private.{Reaches}
 use Rattle.text.proofs.Blocks.{passed}
 use Rattle.text.proofs.walk_blocks.Statement.{statement}
 use Rattle.text.proofs.walk_blocks.Tie as tie
 
 abbrev Inv-loop : tie.InvT-loop
-Inv-loop class next s a q n x₀ i₀ x i = (i ≤ length s) × Walks s a i q x
+Inv-loop class next s a q n x₀ i₀ x i = (i ≤ length s) × Reaches s a i q x
 
 abbrev μ-loop : tie.MeasureT-loop
 μ-loop class next s a q n x₀ i₀ x i = length s - i

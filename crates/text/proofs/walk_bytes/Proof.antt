@@ -5,13 +5,13 @@ use mathlib.Core.Path.{_≡_, ap, _∙_}
 use lib.ListN.{take, getD}
 use borrow.Author.Needs.{needs}
 use Rattle.text.specs.Private.{code}
-use Rattle.text.specs.Walk.{State, run}
+use Rattle.text.specs.Walk.{State, wantedAfter}
 use Rattle.text.proofs.Codes.{code-low, turn}
 use Rattle.text.proofs.walk_bytes.Statement.{statement}
 use Rattle.text.proofs.walk_bytes.Tie as tie
 
 abbrev Inv-loop : tie.InvT-loop
-Inv-loop class next s a e q x₀ i₀ x i = (i ≤ e) × ((p : State) → q ≡ code (run p (take a s)) → x % 64 ≡ code (run p (take i s)))
+Inv-loop class next s a e q x₀ i₀ x i = (i ≤ e) × ((p : State) → q ≡ code (wantedAfter p (take a s)) → x % 64 ≡ code (wantedAfter p (take i s)))
 
 abbrev μ-loop : tie.MeasureT-loop
 μ-loop class next s a e q x₀ i₀ x i = e - i
@@ -21,7 +21,7 @@ class-small : (c : tie.After-k Inv-loop μ-loop) → getD (c .before .before .be
 class-small c = c .before .before .before .before .pre .0 .small _ (omega (arith, c .before .shared-slice-known .given (c .before .before .before .loop .i)))
 
 loop-holds : tie.Need-loop-holds Inv-loop μ-loop
-loop-holds c = (search needs, λ p e. ap (λ (n : ℕ). n % 64) e ∙ code-low (run p (take (c .args .a) (c .args .s .now))))
+loop-holds c = (search needs, λ p e. ap (λ (n : ℕ). n % 64) e ∙ code-low (wantedAfter p (take (c .args .a) (c .args .s .now))))
 
 shared-slice-read-k : tie.Need-shared-slice-read-k Inv-loop μ-loop
 shared-slice-read-k c = search needs

@@ -3,7 +3,7 @@ use Prim.Native.Nat.{ℕ}
 use mathlib.Core.List.{List}
 use mathlib.Core.Path.{_≡_, _∙_, sym, ap}
 use Rattle.layout.proofs.Forms.{drive-nothing}
-use Rattle.leaf.specs.State.{State}
+use Rattle.leaf.specs.State.{ReadState}
 use Rattle.leaf.specs.Run.{run}
 use Rattle.used.specs.declared.Name.{Name}
 use Rattle.used.specs.Private.{named}
@@ -11,7 +11,7 @@ use borrow.Author.Needs.{needs}
 use Rattle.used.proofs.read_name.Statement.{statement}
 use Rattle.used.proofs.read_name.Tie as tie
 
-told : (s : List ℕ) (st r : State) (x y : Name) → x ≡ y → r ≡ run (named y) s st → r ≡ run (named x) s st
+told : (s : List ℕ) (st r : ReadState) (x y : Name) → x ≡ y → r ≡ run (named y) s st → r ≡ run (named x) s st
 told s st r x y e q = q ∙ sym (ap (λ (z : Name). run (named z) s st) e)
 
 enum-told : tie.Need-enum-told

@@ -10,7 +10,7 @@ use Rattle.layout.proofs.Forms.{loop-on, loop-end}
 use Rattle.leaf.proofs.Handing.{anew-in}
 use Rattle.leaf.proofs.Still.{loop-refused}
 use Rattle.leaf.specs.Run.{run}
-use Rattle.leaf.specs.State.{state}
+use Rattle.leaf.specs.State.{readState}
 use Rattle.layout.specs.Layout.{_then_}
 use Rattle.layout.specs.Entities.{UsedType}
 use Rattle.layout.specs.Forms.{times}
@@ -19,7 +19,7 @@ use Rattle.used.proofs.read_used_types.Statement.{statement}
 use Rattle.used.proofs.read_used_types.Tie as tie
 
 abbrev Inv-loop : tie.InvT-loop
-Inv-loop s t₀ name count n c₀ i₀ t c i = (length t ≡ length t₀) × (run (times count (named name then UsedType)) s (state c₀ t₀) ≡ run (times (count - i) (named name then UsedType)) s (state c t))
+Inv-loop s t₀ name count n c₀ i₀ t c i = (length t ≡ length t₀) × (run (times count (named name then UsedType)) s (readState c₀ t₀) ≡ run (times (count - i) (named name then UsedType)) s (readState c t))
 
 abbrev μ-loop : tie.MeasureT-loop
 μ-loop s t₀ name count n c₀ i₀ t c i = count - i

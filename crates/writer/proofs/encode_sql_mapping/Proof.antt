@@ -23,7 +23,7 @@ enum-told-2 c = search needs
 returns : tie.Need-returns
 returns c =
     let a = c .before .before .before .before .before .before .before .args in
-    refused-whole SqlMapping (now (a .rows)) (now (a .text)) (now (a .dest)) _ _ (c .before .before .before .sql-mapping-len .ensures) (c .before .before .fitting .ensures) _ _ (ap lengthOf (c .enum-told2 .given .1))
+    refused-whole SqlMapping (now (a .rows)) (now (a .text)) (now (a .dest)) _ _ (c .before .before .before .sql-mapping-len .ensures .0) (c .before .before .fitting .ensures) _ _ (ap lengthOf (c .enum-told2 .given .1))
 
 store-requires : tie.Need-store-requires
 store-requires c κs = tt
@@ -34,7 +34,7 @@ same-length c = search needs
 returns-2 : tie.Need-returns-2
 returns-2 c =
     let a = c .before .before .before .before .before .before .before .before .before .before .before .args in
-    second-pass SqlMapping (now (a .rows)) (now (a .text)) (now (a .dest)) _ _ (c .before .before .before .before .before .before .before .sql-mapping-len .ensures) (c .before .before .before .before .before .before .fitting .ensures) _ (ap lengthOf (c .before .before .before .before .enum-told .given .1)) _ (c .before .before .store .ensures)
+    second-pass SqlMapping (now (a .rows)) (now (a .text)) (now (a .dest)) _ _ (c .before .before .before .before .before .before .before .sql-mapping-len .ensures .0) (c .before .before .before .before .before .before .fitting .ensures) _ (ap lengthOf (c .before .before .before .before .enum-told .given .1)) _ (c .before .before .store .ensures)
 
 pub encode-sql-mapping-spec : {M : Type 1} → statement M
 encode-sql-mapping-spec =

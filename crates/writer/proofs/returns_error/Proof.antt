@@ -2,8 +2,7 @@
 use native.Mathlib.Omega.{arith}
 use mathlib.Core.List.{[]}
 use mathlib.Core.Logic.{⊎-elim}
-use Rattle.layout.specs.Entities.{ReturnsError}
-use Rattle.layout.specs.Forms.{bare}
+use Rattle.layout.specs.Entities.{returnsErrors, ReturnsError}
 use Rattle.layout.proofs.Forms.{tags-bare, tags-wrong}
 use Rattle.writer.proofs.returns_error.Statement.{statement}
 use Rattle.writer.proofs.returns_error.Tie as tie
@@ -20,7 +19,7 @@ returns c = tags-bare 1 10 [] _ _ _ (c .before .before .u8 .ensures) (omega arit
 
 returns-2 : tie.Need-returns-2
 unfolding ReturnsError
-returns-2 c = tags-wrong (bare 1 10) _ _ _ _ (c .before .before .u8 .ensures) (⊎-elim (λ w. omega arith) (λ w. omega arith) (c .before .if1 .came)) (c .refused .ensures)
+returns-2 c = tags-wrong returnsErrors _ _ _ _ (c .before .before .u8 .ensures) (⊎-elim (λ w. omega arith) (λ w. omega arith) (c .before .if1 .came)) (c .refused .ensures)
 
 pub returns-error-spec : {M : Type 1} → statement M
 returns-error-spec = tie.close (tie.spec u8-requires refused-requires returns returns-2)

@@ -7,13 +7,13 @@ use denote.Ref.{now}
 use Rattle.layout.specs.Entities.{SqlMapping}
 use Rattle.layout.specs.Forms.{times}
 use Rattle.layout.proofs.Forms.{loop-on, loop-end}
-use Rattle.entry_writer.specs.Run.{run}
+use Rattle.entry_writer.specs.Run.{consume}
 use Rattle.entry_writer.proofs.Still.{loop-refused}
 use Rattle.writer.proofs.sql_mappings.Statement.{statement}
 use Rattle.writer.proofs.sql_mappings.Tie as tie
 
 abbrev Inv-loop : tie.InvT-loop
-Inv-loop rows text count w₀ i₀ w i = run (times count SqlMapping) rows text w₀ ≡ run (times (count - i) SqlMapping) rows text w
+Inv-loop rows text count w₀ i₀ w i = consume (times count SqlMapping) rows text w₀ ≡ consume (times (count - i) SqlMapping) rows text w
 
 abbrev μ-loop : tie.MeasureT-loop
 μ-loop rows text count w₀ i₀ w i = count - i
@@ -21,7 +21,7 @@ abbrev μ-loop : tie.MeasureT-loop
 loop-holds : tie.Need-loop-holds Inv-loop μ-loop
 loop-holds c =
     let a = c .before .before .args in
-    ap (λ (k : ℕ). run (times k SqlMapping) (now (a .rows)) (now (a .text)) (a .w)) (sym (sub-zero (a .count)))
+    ap (λ (k : ℕ). consume (times k SqlMapping) (now (a .rows)) (now (a .text)) (a .w)) (sym (sub-zero (a .count)))
 
 returns : tie.Need-returns Inv-loop μ-loop
 returns c = loop-refused _ _ _ _ _ (c .before .before .before .loop .inv) (c .if1 .taken)

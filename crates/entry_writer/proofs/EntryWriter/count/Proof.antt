@@ -2,7 +2,7 @@
 use borrow.Author.Needs.{needs}
 use Rattle.layout.specs.Layout.{Count}
 use Rattle.layout.specs.Machine.{drive}
-use Rattle.entry_writer.specs.State.{plainStep}
+use Rattle.entry_writer.specs.State.{consumePlain}
 use Rattle.entry_writer.proofs.Steps.{land-sort}
 use Rattle.entry_writer.proofs.EntryWriter.count.Statement.{statement}
 use Rattle.entry_writer.proofs.EntryWriter.count.Tie as tie
@@ -11,7 +11,7 @@ number-requires : tie.Need-number-requires
 number-requires c κs = search needs
 
 returns : tie.Need-returns
-unfolding drive plainStep
+unfolding drive consumePlain
 returns c = rw (← land-sort Count) (c .number .ensures)
 
 pub count-spec : {M : Type 1} → statement M

@@ -6,27 +6,27 @@ use borrow.Author.Needs.{needs}
 use borrow.Author.Tests.{lt-leb, le-leb, lt-ltb, le-ltb}
 use denote.Ref.{now}
 use Rattle.leaf.proofs.Leaves.{refused-stays, long-stops, goes-on}
-use Rattle.leaf.specs.State.{plainStep}
+use Rattle.leaf.specs.State.{readPlain}
 use Rattle.layout.specs.Machine.{drive}
 use Rattle.leaf.proofs.Cursor.read_bool.Statement.{statement}
 use Rattle.leaf.proofs.Cursor.read_bool.Tie as tie
 
 returns : tie.Need-returns
-unfolding drive plainStep
+unfolding drive readPlain
 returns c = refused-stays _ _ _ _ (c .if1 .taken)
 
 stop-requires : tie.Need-stop-requires
 stop-requires c κs = search needs
 
 returns-2 : tie.Need-returns-2
-unfolding drive plainStep
+unfolding drive readPlain
 returns-2 c = long-stops _ _ _ _ (c .before .before .if1 .left) (c .before .if2 .taken) _ (c .stop .ensures)
 
 stop-requires-2 : tie.Need-stop-requires-2
 stop-requires-2 c κs = search needs
 
 returns-3 : tie.Need-returns-3
-unfolding drive plainStep
+unfolding drive readPlain
 returns-3 c = goes-on _ _ _ _ (c .before .before .before .if1 .left) (c .before .before .if2 .left) _ (simp (lt-leb (c .before .before .before .before .before .before .before .args .self .at + 1) (length (now (c .before .before .before .before .before .before .before .args .s))) (omega arith), c .stop2 .ensures))
 
 shared-slice-read-wide : tie.Need-shared-slice-read-wide
@@ -39,7 +39,7 @@ stop-requires-3 : tie.Need-stop-requires-3
 stop-requires-3 c κs = search needs
 
 returns-4 : tie.Need-returns-4
-unfolding drive plainStep
+unfolding drive readPlain
 returns-4 c = goes-on _ _ _ _ (c .before .before .before .before .before .before .if1 .left) (c .before .before .before .before .before .if2 .left) _ (simp (le-leb (c .before .before .before .before .before .before .before .before .before .before .args .self .at + 1) (length (now (c .before .before .before .before .before .before .before .before .before .before .args .s))) (omega arith), le-ltb _ 2 (rw (c .before .before .wide .ensures .0) at (c .before .if4 .taken)), c .stop3 .ensures))
 
 cast-store : tie.Need-cast-store
@@ -55,7 +55,7 @@ same-length : tie.Need-same-length
 same-length c = search needs
 
 returns-5 : tie.Need-returns-5
-unfolding drive plainStep
+unfolding drive readPlain
 returns-5 c = goes-on _ _ _ _ (c .before .before .before .before .before .before .before .before .before .if1 .left) (c .before .before .before .before .before .before .before .before .if2 .left) _ (simp (le-leb (c .before .before .before .before .before .before .before .before .before .before .before .before .before .args .self .at + 1) (length (now (c .before .before .before .before .before .before .before .before .before .before .before .before .before .args .s))) (omega arith), ← c .before .before .before .before .before .wide .ensures .0, lt-ltb _ 2 (c .before .before .before .before .if4 .left)) (c .before .before .store .ensures))
 
 pub read-bool-spec : {M : Type 1} → statement M

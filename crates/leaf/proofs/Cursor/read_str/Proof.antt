@@ -7,27 +7,27 @@ use borrow.Author.Needs.{needs}
 use borrow.Author.Tests.{lt-leb}
 use denote.Ref.{now}
 use Rattle.leaf.proofs.Leaves.{refused-stays, long-stops, goes-on, text-long, text-wrong, text-right}
-use Rattle.leaf.specs.State.{state, textStep}
+use Rattle.leaf.specs.State.{readState, readText}
 use Rattle.layout.specs.Machine.{drive}
 use Rattle.leaf.proofs.Cursor.read_str.Statement.{statement}
 use Rattle.leaf.proofs.Cursor.read_str.Tie as tie
 
 returns : tie.Need-returns
-unfolding drive textStep
+unfolding drive readText
 returns c = refused-stays _ _ _ _ (c .if1 .taken)
 
 stop-requires : tie.Need-stop-requires
 stop-requires c κs = search needs
 
 returns-2 : tie.Need-returns-2
-unfolding drive textStep
+unfolding drive readText
 returns-2 c = long-stops _ _ _ _ (c .before .before .if1 .left) (c .before .if2 .taken) _ (c .stop .ensures)
 
 stop-requires-2 : tie.Need-stop-requires-2
 stop-requires-2 c κs = search needs
 
 returns-3 : tie.Need-returns-3
-unfolding drive textStep
+unfolding drive readText
 returns-3 c = goes-on _ _ _ _ (c .before .before .before .if1 .left) (c .before .before .if2 .left) _ (simp (lt-leb (c .before .before .before .before .before .before .before .args .self .at + 4) (length (now (c .before .before .before .before .before .before .before .args .s))) (omega arith), c .stop2 .ensures))
 
 sub-if4 : tie.Need-sub-if4
@@ -37,7 +37,7 @@ stop-requires-3 : tie.Need-stop-requires-3
 stop-requires-3 c κs = search needs
 
 returns-4 : tie.Need-returns-4
-unfolding drive textStep
+unfolding drive readText
 returns-4 c = goes-on _ _ _ _ (c .before .before .before .before .if1 .left) (c .before .before .before .if2 .left) _ (simp (lt-leb (c .before .before .before .before .before .before .before .before .args .self .at + 4) (length (now (c .before .before .before .before .before .before .before .before .args .s))) (omega arith), c .stop3 .ensures))
 
 number-at-requires : tie.Need-number-at-requires
@@ -56,8 +56,8 @@ stop-requires-4 : tie.Need-stop-requires-4
 stop-requires-4 c κs = search needs
 
 returns-5 : tie.Need-returns-5
-unfolding drive textStep
-returns-5 c = goes-on _ _ _ _ (c .before .before .before .before .before .before .if1 .left) (c .before .before .before .before .before .if2 .left) _ (rw (c .stop4 .ensures) (sym (text-long (now (c .before .before .before .before .before .before .before .before .before .before .args .s)) (state (c .before .before .before .before .before .before .before .before .before .before .args .self) (now (c .before .before .before .before .before .before .before .before .before .before .args .t))) (c .before .before .number-at .result) (c .before .before .number-at .ensures) (omega arith) (omega arith))))
+unfolding drive readText
+returns-5 c = goes-on _ _ _ _ (c .before .before .before .before .before .before .if1 .left) (c .before .before .before .before .before .if2 .left) _ (rw (c .stop4 .ensures) (sym (text-long (now (c .before .before .before .before .before .before .before .before .before .before .args .s)) (readState (c .before .before .before .before .before .before .before .before .before .before .args .self) (now (c .before .before .before .before .before .before .before .before .before .before .args .t))) (c .before .before .number-at .result) (c .before .before .number-at .ensures) (omega arith) (omega arith))))
 
 add-end : tie.Need-add-end
 add-end c = search needs
@@ -84,19 +84,19 @@ same-length : tie.Need-same-length
 same-length c = search needs
 
 returns-6 : tie.Need-returns-6
-unfolding drive textStep
+unfolding drive readText
 returns-6 c =
     let at = c .before .before .before .before .before .before .before .before .before .before .before .before .before .before .before .before .args .self .at in let n = c .before .before .before .before .before .before .before .before .number-at .result in
-    goes-on _ _ _ _ (c .before .before .before .before .before .before .before .before .before .before .before .before .if1 .left) (c .before .before .before .before .before .before .before .before .before .before .before .if2 .left) _ (c .before .before .store .ensures ∙ sym (text-right _ (state (c .before .before .before .before .before .before .before .before .before .before .before .before .before .before .before .before .args .self) (now (c .before .before .before .before .before .before .before .before .before .before .before .before .before .before .before .before .args .t))) n (c .before .before .before .before .before .before .before .before .number-at .ensures) (omega arith) (omega arith) (at + 4 + n - (at + 4)) (omega arith) (sym (c .before .before .before .before .before .is-utf8 .ensures) ∙ c .before .before .before .before .if6 .taken)))
+    goes-on _ _ _ _ (c .before .before .before .before .before .before .before .before .before .before .before .before .if1 .left) (c .before .before .before .before .before .before .before .before .before .before .before .if2 .left) _ (c .before .before .store .ensures ∙ sym (text-right _ (readState (c .before .before .before .before .before .before .before .before .before .before .before .before .before .before .before .before .args .self) (now (c .before .before .before .before .before .before .before .before .before .before .before .before .before .before .before .before .args .t))) n (c .before .before .before .before .before .before .before .before .number-at .ensures) (omega arith) (omega arith) (at + 4 + n - (at + 4)) (omega arith) (sym (c .before .before .before .before .before .is-utf8 .ensures .0) ∙ c .before .before .before .before .if6 .taken)))
 
 stop-requires-5 : tie.Need-stop-requires-5
 stop-requires-5 c κs = search needs
 
 returns-7 : tie.Need-returns-7
-unfolding drive textStep
+unfolding drive readText
 returns-7 c =
     let at = c .before .before .before .before .before .before .before .before .before .before .before .before .before .args .self .at in let n = c .before .before .before .before .before .number-at .result in
-    goes-on _ _ _ _ (c .before .before .before .before .before .before .before .before .before .if1 .left) (c .before .before .before .before .before .before .before .before .if2 .left) _ (rw (c .stop5 .ensures) (sym (text-wrong _ (state (c .before .before .before .before .before .before .before .before .before .before .before .before .before .args .self) (now (c .before .before .before .before .before .before .before .before .before .before .before .before .before .args .t))) n (c .before .before .before .before .before .number-at .ensures) (omega arith) (omega arith) (at + 4 + n - (at + 4)) (omega arith) (sym (c .before .before .is-utf8 .ensures) ∙ c .before .if6 .left))))
+    goes-on _ _ _ _ (c .before .before .before .before .before .before .before .before .before .if1 .left) (c .before .before .before .before .before .before .before .before .if2 .left) _ (rw (c .stop5 .ensures) (sym (text-wrong _ (readState (c .before .before .before .before .before .before .before .before .before .before .before .before .before .args .self) (now (c .before .before .before .before .before .before .before .before .before .before .before .before .before .args .t))) n (c .before .before .before .before .before .number-at .ensures) (omega arith) (omega arith) (at + 4 + n - (at + 4)) (omega arith) (sym (c .before .before .is-utf8 .ensures .0) ∙ c .before .if6 .left))))
 
 pub read-str-spec : {M : Type 1} → statement M
 read-str-spec =

@@ -1,7 +1,7 @@
 -- The number that was read is a leaf of its sort.
 use borrow.Author.Needs.{needs}
 use Rattle.leaf.proofs.Leaves.{land-plain}
-use Rattle.leaf.specs.State.{plainStep}
+use Rattle.leaf.specs.State.{readPlain}
 use Rattle.layout.specs.Machine.{drive}
 use Rattle.layout.specs.Layout.{Number}
 use Rattle.leaf.proofs.Cursor.read_u32.Statement.{statement}
@@ -14,7 +14,7 @@ same-length : tie.Need-same-length
 same-length c = search needs
 
 returns : tie.Need-returns
-unfolding drive plainStep
+unfolding drive readPlain
 returns c = rw (← land-plain Number) (c .before .before .four .ensures)
 
 pub read-u32-spec : {M : Type 1} → statement M

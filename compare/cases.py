@@ -3,9 +3,10 @@
 
 The arguments are files of cases with their answers, of which the lines of reading (S, P, M, G), of parts (T, N, Q), of writing
 (W, w) and of objects (O) are taken, each once. The first file is one of all these but objects; the second is a sample of the
-Rust's own answers, by `compare/run --sample 2000 --seed 3629`. The cases below are added, with answers by the rules of document 01. Each reading that is
-accepted is followed by the same with a table of just as many rows, and with one of a row less, which 13 refuses; each writing
-that is accepted, by the same with a destination of just the length, and with one of a byte less, which 17 refuses. For each
+Rust's own answers, by `compare/run --sample 2000 --seed 3629`. The cases below are added, with answers by the rules of
+document 01. Each reading that is accepted is followed by the same with a table of just as many rows, and with one of a row
+less, which 13 refuses; each writing that is accepted, by the same with a destination of just the length, and with one of a
+byte less, which 17 refuses. Each writing but one that 17 refuses is also measured (V, v), with no destination. For each
 section there is a case of the path report (R), whose pairs are counted here on the rows of the section's answer. In stdin a
 case has its own length before it, a part stands as its bytes, a table to be written stands behind the destination's size and
 the count of its numbers, the destination ends the answer after a refusal too, and = stands for the bytes of the case before.
@@ -17,7 +18,8 @@ from collections import Counter
 READINGS = ("S", "P", "M", "G")  # a section; one payload, one metadata record, one mapping, each alone
 PARTS = ("T", "N", "Q")  # a row's text, the SQL name from a row, the SQL text of a mapping
 WRITINGS = ("W", "w")  # a metadata record, one mapping
-LETTERS = READINGS + PARTS + ("R",) + WRITINGS + ("O",)  # R is the path report; O is a section as objects
+MEASURINGS = {"W": "V", "w": "v"}  # the same, measured
+LETTERS = READINGS + PARTS + ("R",) + WRITINGS + ("V", "v", "O")  # R is the path report; O is a section as objects
 LENGTH_DIGITS = 5
 MANY = 5461  # rows
 ROW_WIDTH = 3
@@ -366,6 +368,15 @@ def writing(line):
     yield case(length - 1, f"17 0 {untouched(length - 1)}")
 
 
+def measuring(line):
+    """The case of measuring what a writing was given, unless only the destination was refused."""
+    letter, table, field, _, verdict, first, _ = line.split(" ")
+    numbers = [] if table == "-" else table.split(",")
+    if verdict != "refuse" or first != "17":
+        answer = f"{first} 0" if verdict == "refuse" else f"0 0 {first}"
+        yield f"{MEASURINGS[letter]} {','.join(['0', str(len(numbers)), *numbers])} {field} {answer} -"
+
+
 def path_report(line):
     """The case of the path report for a section, unless only the table was refused."""
     letter, rows, field, verdict, *numbers = line.split(" ")
@@ -399,6 +410,7 @@ def cases():
             yield sql_text(line)
         if letter in WRITINGS:
             yield from writing(line)
+            yield from measuring(line)
         if letter == "O":
             yield "O 0 " + line[2:]
 

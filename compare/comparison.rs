@@ -1,11 +1,12 @@
 //! The comparison of one input: of readings, of the texts that rows give, and of writings.
 use crate::common::Random;
 use crate::ffi::{self, Answer, What, LIMIT, ROW_WIDTH, SQL_TEXT_SIZE};
+use crate::flatten;
 use crate::generate::Generator;
 use crate::layouts::{self, Reading};
 use crate::rebuild::{self, Calls, Objects};
 use crate::sample::hexadecimal;
-use crate::{flatten, written};
+use crate::written::{self, Value};
 use pgrx_sql_entity_graph::metadata::SqlMapping;
 use pgrx_sql_entity_graph::section::{decode_entities, decode_entity, EntryReader};
 use pgrx_sql_entity_graph::SqlGraphEntity;
@@ -57,6 +58,8 @@ pub struct Comparison {
     pub mappings: u64,
     /// Values that are too long for the Rust's writer here.
     pub long: u64,
+    /// Lengths of values that were not yet written.
+    pub lengths: u64,
     pub differences: u64,
     turn: usize,
     table: Vec<u32>,
@@ -307,16 +310,28 @@ impl Comparison {
         Ok(())
     }
 
-    /// Compares the writing of a generated value.
+    /// Compares the length of a value that is not yet written, from its rows and their texts.
+    fn compare_len(&mut self, what: What, rows: &[u32], text: &[u8], value: Value) {
+        self.lengths += 1;
+        let (answer, len) = (ffi::written_len(what, rows, text), value.len());
+        if answer != [0, 0, len as u64, 0] {
+            let why = format!("the length of a {what:?} is {answer:?}, by the Rust {len}; the rows are {rows:?}");
+            self.differ("lent text", text, &why);
+        }
+    }
+
+    /// Compares the length and the writing of a generated value.
     pub fn writing(&mut self, what: What, generator: &mut Generator) {
         let bytes = generator.make(what);
+        self.by_layouts.read(what, &bytes).expect("what is generated is whole");
         if bytes.len() > written::MOST {
             self.long += 1;
-            return;
+            let rows = self.by_layouts.rows.clone();
+            return self.compare_len(what, &rows, &bytes, Value::new(what, &rows, &bytes));
         }
-        self.by_layouts.read(what, &bytes).expect("what is generated is whole");
         let (rows, text) = written::lend(&self.by_layouts.rows, &bytes, &mut generator.random);
-        let value = written::Value::new(what, &rows, &text);
+        let value = Value::new(what, &rows, &text);
+        self.compare_len(what, &rows, &text, value);
         let theirs = value.write();
         match what {
             What::Metadata => self.records += 1,

@@ -34,6 +34,8 @@ extern "C" {
         dest_len: usize,
         answer: *mut u64,
     );
+    fn pgrxsc_metadata_len(rows: *const u32, rows_len: usize, text: *const u8, text_len: usize, answer: *mut u64);
+    fn pgrxsc_mapping_len(rows: *const u32, rows_len: usize, text: *const u8, text_len: usize, answer: *mut u64);
     fn pgrxsc_path_pairs(bytes: *const u8, len: usize, answer: *mut u64) -> u64;
     fn pgrxsc_is_text(bytes: *const u8, len: usize) -> bool;
 }
@@ -107,6 +109,18 @@ pub fn write(what: What, rows: &[u32], text: &[u8], dest: &mut [u8]) -> Answer {
     unsafe {
         write(rows.as_ptr(), rows.len(), text.as_ptr(), text.len(), dest.as_mut_ptr(), dest.len(), answer.as_mut_ptr())
     }
+    answer
+}
+
+/// Measures a metadata record or a mapping before it is written.
+pub fn written_len(what: What, rows: &[u32], text: &[u8]) -> Answer {
+    let written_len = match what {
+        What::Metadata => pgrxsc_metadata_len,
+        What::Mapping => pgrxsc_mapping_len,
+        _ => panic!("no writer of a {what:?}"),
+    };
+    let mut answer = [u64::MAX; 4];
+    unsafe { written_len(rows.as_ptr(), rows.len(), text.as_ptr(), text.len(), answer.as_mut_ptr()) }
     answer
 }
 

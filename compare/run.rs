@@ -210,6 +210,7 @@ fn print(comparison: &Comparison) {
         ("records written", comparison.records),
         ("mappings written", comparison.mappings),
         ("longer than 256, not written", comparison.long),
+        ("lengths before writing", comparison.lengths),
     ];
     for (name, count) in lines {
         println!("{name:28} {count:11}");

@@ -113,7 +113,7 @@ uint32_t pgrxsc_sql_text(const uint8_t *bytes, size_t len, uint32_t offset, uint
 /*
  * Writes one metadata record from its rows to the start of dest. The offset of a text row counts from the start of `text`; other
  * offsets are not looked at. a is the written length, b is 0. Bytes behind it are unchanged, and so is all of dest after a
- * refusal. Refusals 14 to 17.
+ * refusal. pgrxsc_metadata_len tells how long dest must be. Refusals 14 to 17.
  */
 void pgrxsc_write_metadata(const uint32_t *rows, size_t rows_len, const uint8_t *text, size_t text_len, uint8_t *dest,
                            size_t dest_len, uint64_t answer[4]);
@@ -121,6 +121,15 @@ void pgrxsc_write_metadata(const uint32_t *rows, size_t rows_len, const uint8_t 
 /* The same for one mapping. */
 void pgrxsc_write_mapping(const uint32_t *rows, size_t rows_len, const uint8_t *text, size_t text_len, uint8_t *dest,
                           size_t dest_len, uint64_t answer[4]);
+
+/*
+ * Measures one metadata record before it is written, which tells how many bytes to lend as dest: a is the length that
+ * pgrxsc_write_metadata writes from the same rows and text, b is 0. Refusals 14 to 16, which are those of the writing.
+ */
+void pgrxsc_metadata_len(const uint32_t *rows, size_t rows_len, const uint8_t *text, size_t text_len, uint64_t answer[4]);
+
+/* The same for one mapping, which pgrxsc_write_mapping writes. */
+void pgrxsc_mapping_len(const uint32_t *rows, size_t rows_len, const uint8_t *text, size_t text_len, uint64_t answer[4]);
 
 /*
  * Returns the number of unordered pairs of entities of a section with the same full_path bytes; schemas have none. After a

@@ -80,6 +80,20 @@ mod archive {
             dest_len: usize,
             answer: *mut u64,
         );
+        pub fn pgrxsc_metadata_len(
+            rows: *const u32,
+            rows_len: usize,
+            text: *const u8,
+            text_len: usize,
+            answer: *mut u64,
+        );
+        pub fn pgrxsc_mapping_len(
+            rows: *const u32,
+            rows_len: usize,
+            text: *const u8,
+            text_len: usize,
+            answer: *mut u64,
+        );
         pub fn pgrxsc_path_pairs(bytes: *const u8, len: usize, answer: *mut u64) -> u64;
         pub fn pgrxsc_is_text(bytes: *const u8, len: usize) -> bool;
     }
@@ -189,6 +203,27 @@ pub(crate) fn write(written: Written, rows: &[u32], text: &[u8], dest: &mut [u8]
             text.len(),
             dest.as_mut_ptr(),
             dest.len(),
+            answer.as_mut_ptr(),
+        );
+    }
+    answer
+}
+
+/// a is the length that would be written.
+pub(crate) fn written_len(written: Written, rows: &[u32], text: &[u8]) -> Answer {
+    let function = match written {
+        Written::Metadata => archive::pgrxsc_metadata_len,
+        Written::Mapping => archive::pgrxsc_mapping_len,
+    };
+    let mut answer = [0; 4];
+    // SAFETY: the pointers and lengths are those of slices; the answer has four numbers and
+    // overlaps nothing.
+    unsafe {
+        function(
+            rows.as_ptr(),
+            rows.len(),
+            text.as_ptr(),
+            text.len(),
             answer.as_mut_ptr(),
         );
     }

@@ -65,7 +65,7 @@ pub use reading::{
 pub use refusal::Refusal;
 pub use row::{EntityKind, Row, Sort};
 pub use table::{table_len, Table};
-pub use writing::{write_mapping, write_metadata};
+pub use writing::{mapping_len, metadata_len, write_mapping, write_metadata};
 
 /// The most bytes that are read or written: 16 MiB.
 pub const LIMIT: usize = 16_777_216;

@@ -61,7 +61,7 @@ impl Refusal {
 
 /// The numbers a and b of an answer, or its refusal.
 pub(crate) fn accepted([number, place, a, b]: Answer) -> Result<(usize, usize), Refusal> {
-    let size = |n: u64| usize::try_from(n).expect("the archive counts no more than it was lent");
+    let size = |n: u64| usize::try_from(n).expect("the archive counts no further than LIMIT");
     match number {
         0 => Ok((size(a), size(b))),
         _ => Err(Refusal {

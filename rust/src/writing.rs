@@ -1,4 +1,4 @@
-use crate::ffi::{self, Written};
+use crate::ffi::{self, Answer, Written};
 use crate::refusal::accepted;
 use crate::Refusal;
 
@@ -6,7 +6,8 @@ use crate::Refusal;
 ///
 /// `rows` has the record's rows as numbers ([`Row::numbers`](crate::Row::numbers)). The offset of a
 /// text row counts from the start of `text`; the other offsets may be any. The bytes of `dest` after
-/// the record do not change, and after a refusal none does.
+/// the record do not change, and after a refusal none does. [`metadata_len`] tells how many bytes
+/// `dest` must have.
 ///
 /// # Errors
 ///
@@ -26,10 +27,11 @@ use crate::Refusal;
 /// # Ok::<(), pgrxsc::Refusal>(())
 /// ```
 pub fn write_metadata(rows: &[u32], text: &[u8], dest: &mut [u8]) -> Result<usize, Refusal> {
-    write(Written::Metadata, rows, text, dest)
+    length(ffi::write(Written::Metadata, rows, text, dest))
 }
 
-/// Writes a mapping to the start of `dest`, as [`write_metadata`] writes a record.
+/// Writes a mapping to the start of `dest`, as [`write_metadata`] writes a record. [`mapping_len`]
+/// tells how many bytes `dest` must have.
 ///
 /// # Errors
 ///
@@ -47,10 +49,64 @@ pub fn write_metadata(rows: &[u32], text: &[u8], dest: &mut [u8]) -> Result<usiz
 /// assert_eq!(&dest, b"\x01\x04\0\0\0TEXT");
 /// ```
 pub fn write_mapping(rows: &[u32], text: &[u8], dest: &mut [u8]) -> Result<usize, Refusal> {
-    write(Written::Mapping, rows, text, dest)
+    length(ffi::write(Written::Mapping, rows, text, dest))
 }
 
-fn write(written: Written, rows: &[u32], text: &[u8], dest: &mut [u8]) -> Result<usize, Refusal> {
-    let (len, _) = accepted(ffi::write(written, rows, text, dest))?;
+/// Measures a metadata record before it is written: gives the length that [`write_metadata`] writes
+/// from the same rows and text, and so the number of bytes that `dest` must have.
+///
+/// # Errors
+///
+/// [`Refusal`]s 14 to 16, which are those of the writing.
+///
+/// ```
+/// use pgrxsc::{metadata_len, write_metadata, Row, Sort};
+///
+/// // No resolution; as an argument, Skip; returned, one of As with its text.
+/// let rows = [
+///     Row::new(Sort::Flag, 0, 0),
+///     Row::new(Sort::Tag, 0, 1),
+///     Row::new(Sort::Tag, 0, 5),
+///     Row::new(Sort::Tag, 0, 1),
+///     Row::new(Sort::Tag, 0, 1),
+///     Row::new(Sort::Tag, 0, 1),
+///     Row::new(Sort::Text, 0, 4),
+/// ];
+/// let rows: Vec<u32> = rows.into_iter().flat_map(Row::numbers).collect();
+///
+/// let mut dest = vec![0; metadata_len(&rows, b"TEXT")?];
+/// write_metadata(&rows, b"TEXT", &mut dest)?;
+/// assert_eq!(dest, b"\0\x01\x05\x01\x01\x01\x04\0\0\0TEXT");
+/// # Ok::<(), pgrxsc::Refusal>(())
+/// ```
+pub fn metadata_len(rows: &[u32], text: &[u8]) -> Result<usize, Refusal> {
+    length(ffi::written_len(Written::Metadata, rows, text))
+}
+
+/// Measures a mapping before [`write_mapping`] writes it, as [`metadata_len`] measures a record.
+///
+/// # Errors
+///
+/// [`Refusal`]s 14 to 16.
+///
+/// ```
+/// use pgrxsc::{mapping_len, write_mapping, Refusal};
+///
+/// // As, with its text.
+/// let (rows, text) = ([2, 0, 1, 6, 0, 4], b"TEXT");
+/// let mut dest = vec![0; 8];
+/// assert_eq!(write_mapping(&rows, text, &mut dest), Err(Refusal::new(17, 0)));
+///
+/// dest.resize(mapping_len(&rows, text)?, 0);
+/// assert_eq!(write_mapping(&rows, text, &mut dest), Ok(9));
+/// # Ok::<(), Refusal>(())
+/// ```
+pub fn mapping_len(rows: &[u32], text: &[u8]) -> Result<usize, Refusal> {
+    length(ffi::written_len(Written::Mapping, rows, text))
+}
+
+/// The length in an answer, or its refusal.
+fn length(answer: Answer) -> Result<usize, Refusal> {
+    let (len, _) = accepted(answer)?;
     Ok(len)
 }

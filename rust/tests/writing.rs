@@ -4,7 +4,8 @@ mod common;
 
 use common::{hex, text};
 use pgrxsc::{
-    read_mapping, read_metadata, write_mapping, write_metadata, Refusal, Row, Sort, Table, LIMIT,
+    mapping_len, metadata_len, read_mapping, read_metadata, write_mapping, write_metadata, Refusal,
+    Row, Sort, Table, LIMIT,
 };
 
 fn rows(rows: &[(Sort, u32, u32)]) -> Vec<u32> {
@@ -42,6 +43,36 @@ fn record() -> (Vec<u32>, &'static [u8], Vec<u8>) {
     (rows, b"TEXTident", bytes.concat())
 }
 
+/// A record that returns a table of texts with these lengths, each from the start of the lent text.
+/// It has 9 bytes, and for each text 5 and the text's own.
+fn table_of_texts(lens: &[u32]) -> Vec<u32> {
+    let mut record = rows(&[
+        (Sort::Flag, 0, 0),
+        (Sort::Tag, 0, 1),
+        (Sort::Tag, 0, 5),
+        (Sort::Tag, 0, 1),
+        (Sort::Tag, 0, 3),
+        (Sort::Count, 0, lens.len() as u32),
+    ]);
+    for &len in lens {
+        record.extend(rows(&[(Sort::Tag, 0, 1), (Sort::Text, 0, len)]));
+    }
+    record
+}
+
+/// A record of two errors: as an argument one with a text of this length, returned one without. It
+/// has 9 bytes beside the text's own.
+fn errors(text_len: u32) -> Vec<u32> {
+    rows(&[
+        (Sort::Flag, 0, 0),
+        (Sort::Tag, 0, 2),
+        (Sort::Tag, 0, 7),
+        (Sort::Text, 0, text_len),
+        (Sort::Tag, 0, 2),
+        (Sort::Tag, 0, 10),
+    ])
+}
+
 #[test]
 fn a_record() {
     let (rows, text, bytes) = record();
@@ -70,18 +101,20 @@ fn what_was_read() {
     assert_eq!(dest, bytes);
 }
 
+const MAPPINGS: [&str; 8] = [
+    "01 00000000",
+    "01 03000000 494e54",
+    "02 01 01000000 61",
+    "02 03 01 0a000000 01 02000000",
+    "02 04",
+    "03 00 05000000 00 06000000",
+    "04",
+    "05",
+];
+
 #[test]
 fn mappings() {
-    for mapping in [
-        "01 00000000",
-        "01 03000000 494e54",
-        "02 01 01000000 61",
-        "02 03 01 0a000000 01 02000000",
-        "02 04",
-        "03 00 05000000 00 06000000",
-        "04",
-        "05",
-    ] {
+    for mapping in MAPPINGS {
         let mapping = hex(mapping);
         let mut table = [0; 18];
         let reading = read_mapping(&mapping, &mut table).unwrap();
@@ -92,12 +125,86 @@ fn mappings() {
     }
 }
 
-/// Asserts that the rows are refused so, and that the destination stays as it is.
+type Measure = fn(&[u32], &[u8]) -> Result<usize, Refusal>;
+type Write = fn(&[u32], &[u8], &mut [u8]) -> Result<usize, Refusal>;
+
+const METADATA: (Measure, Write) = (metadata_len, write_metadata);
+const MAPPING: (Measure, Write) = (mapping_len, write_mapping);
+
+/// Asserts that this is the length, that so many bytes can be written, and that a destination of a
+/// byte less is too short.
+fn measured((measure, write): (Measure, Write), rows: &[u32], text: &[u8], len: usize) {
+    assert_eq!(measure(rows, text), Ok(len));
+    let mut dest = vec![0; len + 3];
+    for size in [len, len + 3] {
+        assert_eq!(write(rows, text, &mut dest[..size]), Ok(len));
+    }
+    assert_eq!(
+        write(rows, text, &mut dest[..len - 1]),
+        Err(Refusal::new(17, 0))
+    );
+}
+
+#[test]
+fn lengths_of_records() {
+    let (rows, text, bytes) = record();
+    measured(METADATA, &rows, text, bytes.len());
+    measured(METADATA, &errors(0), b"", 9);
+    measured(METADATA, &errors(9), text, 9 + 9);
+}
+
+#[test]
+fn lengths_of_tables() {
+    let text = "ä".repeat(1 << 19).into_bytes();
+    let tables: [&[u32]; 6] = [
+        &[],
+        &[0],
+        &[0, 0, 0],
+        &[2, 0, 4],
+        &[254, 256, 65_534, 65_536],
+        &[1 << 20, 0, 1 << 20],
+    ];
+    for lens in tables {
+        let texts: u32 = lens.iter().map(|len| 5 + len).sum();
+        measured(METADATA, &table_of_texts(lens), &text, 9 + texts as usize);
+    }
+}
+
+#[test]
+fn lengths_of_mappings() {
+    for mapping in MAPPINGS {
+        let mapping = hex(mapping);
+        let mut table = [0; 18];
+        let reading = read_mapping(&mapping, &mut table).unwrap();
+        measured(MAPPING, reading.numbers(), &mapping, mapping.len());
+    }
+    let text = vec![b'a'; 1 << 20];
+    measured(MAPPING, &[2, 0, 1, 6, 0, 1 << 20], &text, 5 + (1 << 20));
+}
+
+#[test]
+fn a_length_after_a_refusal() {
+    let (rows, text, bytes) = record();
+    let mut dest = Vec::new();
+    assert_eq!(
+        write_metadata(&rows, text, &mut dest),
+        Err(Refusal::new(17, 0))
+    );
+    dest.resize(metadata_len(&rows, text).unwrap(), 0);
+    assert_eq!(write_metadata(&rows, text, &mut dest), Ok(bytes.len()));
+    assert_eq!(dest, bytes);
+}
+
+/// Asserts that the rows are refused so, and that the destination stays as it is. Unless only the
+/// destination is too short, the length is refused so too.
 fn refused(rows: &[u32], text: &[u8], size: usize, number: u32) {
     let mut dest = vec![0xee; size];
     let refusal = write_mapping(rows, text, &mut dest).unwrap_err();
     assert_eq!(refusal, Refusal::new(number, 0), "{rows:?}");
     assert_eq!(dest, vec![0xee; size]);
+    if number != 17 {
+        assert_eq!(mapping_len(rows, text), Err(refusal), "{rows:?}");
+    }
 }
 
 #[test]
@@ -118,6 +225,7 @@ fn not_one_mapping() {
         write_metadata(&[2, 0, 5], b"", &mut dest),
         Err(Refusal::new(14, 0))
     );
+    assert_eq!(metadata_len(&[2, 0, 5], b""), Err(Refusal::new(14, 0)));
 }
 
 #[test]
@@ -128,39 +236,37 @@ fn texts_outside() {
     refused(&[2, 0, 1, 6, 0, 1], b"\xff", 9, 15);
     // 14 comes before 15.
     refused(&[2, 0, 1, 6, 0, 1, 2, 0, 1], b"\xff", 9, 14);
+    // In a record, outside and not UTF-8.
+    for text in [b"TEXTiden".as_slice(), b"TEXTiden\xff"] {
+        let (rows, _, bytes) = record();
+        let refusal = Err(Refusal::new(15, 0));
+        assert_eq!(metadata_len(&rows, text), refusal);
+        assert_eq!(
+            write_metadata(&rows, text, &mut vec![0; bytes.len()]),
+            refusal
+        );
+    }
 }
 
 #[test]
 fn too_long() {
     // A table of sixteen texts of 1 MiB each.
-    let mut record = rows(&[
-        (Sort::Flag, 0, 0),
-        (Sort::Tag, 0, 1),
-        (Sort::Tag, 0, 5),
-        (Sort::Tag, 0, 1),
-        (Sort::Tag, 0, 3),
-        (Sort::Count, 0, 16),
-    ]);
-    for _ in 0..16 {
-        record.extend(rows(&[(Sort::Tag, 0, 1), (Sort::Text, 0, 1 << 20)]));
-    }
+    let mut record = table_of_texts(&[1 << 20; 16]);
     let text = vec![b'a'; 1 << 20];
     let mut dest = vec![0; LIMIT + 1000];
-    assert_eq!(
-        write_metadata(&record, &text, &mut dest),
-        Err(Refusal::new(16, 0))
-    );
+    let mut both = |record: &[u32], expected: Result<usize, Refusal>| {
+        assert_eq!(metadata_len(record, &text), expected);
+        assert_eq!(write_metadata(record, &text, &mut dest), expected);
+        assert!(expected.is_ok() || dest.iter().all(|&byte| byte == 0));
+    };
+    both(&record, Err(Refusal::new(16, 0)));
 
     // The texts have 16 times 5 bytes beside their own, and the rest 9: so it is 89 above the limit.
     let last = record.len() - 1;
     record[last] -= 88;
-    assert_eq!(
-        write_metadata(&record, &text, &mut dest),
-        Err(Refusal::new(16, 0))
-    );
-    assert!(dest.iter().all(|&byte| byte == 0));
+    both(&record, Err(Refusal::new(16, 0)));
     record[last] -= 1;
-    assert_eq!(write_metadata(&record, &text, &mut dest), Ok(LIMIT));
+    both(&record, Ok(LIMIT));
 }
 
 #[test]

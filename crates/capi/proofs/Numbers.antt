@@ -3,6 +3,7 @@ use Prim.Native.Nat.{ℕ}
 use native.Mathlib.Omega.{arith}
 use mathlib.Core.Bool.{Bool}
 use mathlib.Core.List.{List}
+use mathlib.Core.Logic.{_↔_}
 use mathlib.Core.Path.{_≡_, refl, sym, ap, subst, _∙_}
 use borrow.Author.Tests.{ne-eqb}
 use Rattle.layout.specs.Layout.{Layout}
@@ -16,7 +17,7 @@ use Rattle.section.specs.Demand3.{Demand3}
 use Rattle.section.proofs.Demand3.{reading-meets, reading-told}
 use Rattle.leaf.specs.Finish.{answerOf, resultOf}
 use Rattle.length.specs.Length.{Length, counted, refused}
-use Rattle.entry_writer.specs.Refusals.{WriteRefusal, not-spelled, bad-text, too-long, no-space, ExactLength, ExactWriting}
+use Rattle.entry_writer.specs.Refusals.{WriteRefusal, not-spelled, bad-text, too-long, no-space}
 use Rattle.capi.specs.Numbers.{answerNumbers, answerIn, resultIn, lengthNumbers, lengthTold}
 use Rattle.leaf.specs.declared.Answer as declared
 
@@ -55,8 +56,7 @@ length-in : (l : Length) → ((n p : ℕ) → l ≡ refused n p → n ≡ 0 → 
 length-in (counted n) h = refl
 length-in (refused n p) h = rw (ne-eqb n 0 (h n p refl))
 
-pub length-told : (L : Layout) (rows text numbers : List ℕ) (l : Length) → numbers ≡ lengthNumbers l → ExactLength L rows text l → ExactLength L rows text (lengthTold numbers)
-length-told L rows text numbers l e x = rw (e, length-in l λ n p q. writing-some (x .refuses n p .0 q .0)) x
-
-pub writing-told : (L : Layout) (rows text dest after numbers : List ℕ) (l : Length) → numbers ≡ lengthNumbers l → ExactWriting L rows text dest l after → ExactWriting L rows text dest (lengthTold numbers) after
-writing-told L rows text dest after numbers l e x = rw (e, length-in l λ n p q. writing-some (x .refuses n p .0 q .0)) x
+-- So what holds of the length of a measuring or of a writing, whose refusals are those of a writing, holds of what the numbers tell
+pub length-told : (P : Length → Type 0) {L : Layout} {rows text : List ℕ} {size : ℕ} (numbers : List ℕ) (l : Length) → numbers ≡ lengthNumbers l
+    → ((n p : ℕ) → (l ≡ refused n p) ↔ WriteRefusal L rows text size n × (p ≡ 0)) → P l → P (lengthTold numbers)
+length-told P numbers l e r x = subst P (sym (ap lengthTold e ∙ length-in l λ n p q. writing-some (r n p .0 q .0))) x

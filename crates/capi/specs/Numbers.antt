@@ -39,7 +39,7 @@ partNumbers (refuse number place) = refusalNumbers number place
 
 -- An SQL text: its start, in the bytes or in the buffer, and its length
 abbrev pub placeNumbers : SqlAnswer → List ℕ
-placeNumbers a = a .number ∷ a .place ∷ a .start ∷ a .len ∷ []
+placeNumbers a = a .number ∷ a .place ∷ a .begin ∷ a .len ∷ []
 
 -- 1 if it stands in the buffer, else 0
 abbrev pub inBuffer : SqlAnswer → ℕ

@@ -57,26 +57,26 @@ filled buffer (ok (in-buffer text) end) = text ++ drop end buffer
 filled buffer (refuse n p) = buffer
 
 -- What is answered of an SQL text: the number and the place of a refusal, else 0 and 0; whether it stands in the buffer; where it
--- starts, there or in the section, and its length, after a refusal 0 and 0
+-- begins, there or in the section, and its length, after a refusal 0 and 0
 pub record SqlAnswer : Type 0 where
   pub number : ℕ
   pub place : ℕ
   pub buffered : Bool
-  pub start : ℕ
+  pub begin : ℕ
   pub len : ℕ
 
 -- A refusal of it
 abbrev pub refusedSql : (number place : ℕ) → SqlAnswer
-refusedSql number place = record { number = number; place = place; buffered = false; start = 0; len = 0 }
+refusedSql number place = record { number = number; place = place; buffered = false; begin = 0; len = 0 }
 
 -- The answer for what is read
 abbrev pub sqlAnswer : Outcome ℕ SqlText → SqlAnswer
-sqlAnswer (ok (in-section start) end) = record { number = 0; place = 0; buffered = false; start = start; len = end - start }
-sqlAnswer (ok (in-buffer text) end) = record { number = 0; place = 0; buffered = true; start = 0; len = end }
+sqlAnswer (ok (in-section start) end) = record { number = 0; place = 0; buffered = false; begin = start; len = end - start }
+sqlAnswer (ok (in-buffer text) end) = record { number = 0; place = 0; buffered = true; begin = 0; len = end }
 sqlAnswer (refuse number place) = refusedSql number place
 
 -- What each case of the code's answer is
 abbrev pub sqlAnswerOf : SqlPlace → SqlAnswer
-sqlAnswerOf (Section start len) = record { number = 0; place = 0; buffered = false; start = start; len = len }
-sqlAnswerOf (Buffer len) = record { number = 0; place = 0; buffered = true; start = 0; len = len }
+sqlAnswerOf (Section start len) = record { number = 0; place = 0; buffered = false; begin = start; len = len }
+sqlAnswerOf (Buffer len) = record { number = 0; place = 0; buffered = true; begin = 0; len = len }
 sqlAnswerOf (Refused number place) = refusedSql number place

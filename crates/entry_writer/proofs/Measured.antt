@@ -201,16 +201,16 @@ finished-by L rows text v end w z r b p = rw (z, r) (whole (eqb (rowWidth * end)
     whole false e = refl
 
 -- The end of a writing that was refused
-finished-refused : (rows : List ℕ) (w : EntryWriter) → w .refusal ≡ 14 → closing rows w ≡ refused 14 0
+closing-refused : (rows : List ℕ) (w : EntryWriter) → w .refusal ≡ 14 → closing rows w ≡ refused 14 0
 unfolding closing
-finished-refused rows w e = rw e
+closing-refused rows w e = rw e
 
 module _ (L : Layout) (rows text : List ℕ) where
   by-outcome : (m : Outcome ℕ (Value L)) → walk (inRows rows text) L 0 ≡ m → Follows (gait rows text) newWriter (consume L rows text newWriter) (m >>= λ v end. ok (leaves L v) end)
       → closing rows (consume L rows text newWriter)
       ≡ lengthIn (fourteen (m >>= λ v end. need (eqb (rowWidth * end) (length rows)) 14 0 (ok v end)) >>= λ x e.
       need (goodRows rows text (wholeRows rows)) 15 0 (need (leb (length (bytes L x)) limit) 16 0 (ok (bytes L x) (length (bytes L x)))))
-  by-outcome (refuse n p) e f = finished-refused rows (consume L rows text newWriter) (stops-of f)
+  by-outcome (refuse n p) e f = closing-refused rows (consume L rows text newWriter) (stops-of f)
   by-outcome (ok v end) e f =
       let (q, r) = moved-of f in
       let (s, b) = walk-sound L rows text v end e in

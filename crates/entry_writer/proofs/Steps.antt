@@ -16,26 +16,26 @@ use Rattle.entry_writer.specs.declared.EntryWriter.{EntryWriter}
 use Rattle.entry_writer.specs.Rows.{isRow, textIn, staysAt}
 use Rattle.entry_writer.specs.State.{stoppedWriter, spoiled, past, arrivePlain, pastText, arriveText, unlessRefused}
 use Rattle.entry_writer.specs.Private.{numberFrom, takeNumber}
-use Rattle.entry_writer.proofs.Still.{guarded-refused, goes-on}
+use Rattle.entry_writer.proofs.Still.{unless-refused, goes-on}
 use Rattle.entry_writer.proofs.Spelled.{is-row}
 use Rattle.entry_writer.proofs.Row.{stays-within}
 use Rattle.text.specs.Walk as automaton
 
 -- A number lands as its sort arrives
-pub land-sort : (srt : Sort) (o : Outcome ℕ ℕ) (w : EntryWriter) → takeNumber (length (plainBytes srt 0)) o w ≡ arrivePlain srt o w
-land-sort Kind (ok n next) w = refl
-land-sort Tag (ok n next) w = refl
-land-sort Flag (ok n next) w = refl
-land-sort Number (ok n next) w = refl
-land-sort Count (ok n next) w = refl
-land-sort srt (refuse n p) w = refl
+pub take-sort : (srt : Sort) (o : Outcome ℕ ℕ) (w : EntryWriter) → takeNumber (length (plainBytes srt 0)) o w ≡ arrivePlain srt o w
+take-sort Kind (ok n next) w = refl
+take-sort Tag (ok n next) w = refl
+take-sort Flag (ok n next) w = refl
+take-sort Number (ok n next) w = refl
+take-sort Count (ok n next) w = refl
+take-sort srt (refuse n p) w = refl
 
 -- A row of a sort is one of the whole rows
 pub row-there : (rows : List ℕ) (i sort : ℕ) (t : Bool) → t ≡ isRow rows i sort → not t ≡ false → i < wholeRows rows
 row-there rows i sort t e h = is-row rows i sort (sym e ∙ not-false t h) .0
 
 pub refused-stays : (w out : EntryWriter) → (w .refusal ≡ 0 → ⊥) → w ≡ unlessRefused out w
-refused-stays w out h = sym (guarded-refused out w h)
+refused-stays w out h = sym (unless-refused out w h)
 
 step-of : (w out r : EntryWriter) → w .refusal ≡ 0 → r ≡ out → r ≡ unlessRefused out w
 step-of w out r z e = e ∙ sym (goes-on out w z)

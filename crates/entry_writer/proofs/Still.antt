@@ -12,9 +12,9 @@ use Rattle.entry_writer.specs.Run.{writer, consume}
 abbrev pub Refused : EntryWriter → Type 0
 Refused w = w .refusal ≡ 0 → ⊥
 
-pub guarded-refused : (out w : EntryWriter) → Refused w → unlessRefused out w ≡ w
+pub unless-refused : (out w : EntryWriter) → Refused w → unlessRefused out w ≡ w
 unfolding unlessRefused
-guarded-refused out w h = rw (ne-eqb _ _ h)
+unless-refused out w h = rw (ne-eqb _ _ h)
 
 pub goes-on : (out w : EntryWriter) → w .refusal ≡ 0 → unlessRefused out w ≡ out
 unfolding unlessRefused
@@ -22,11 +22,11 @@ goes-on out w z = rw (eq-eqb (w .refusal) 0 z)
 
 plain-refused : (srt : Sort) (rows : List ℕ) (w : EntryWriter) → Refused w → consumePlain srt rows w ≡ w
 unfolding consumePlain
-plain-refused srt rows w h = guarded-refused _ w h
+plain-refused srt rows w h = unless-refused _ w h
 
 text-refused : (rows text : List ℕ) (w : EntryWriter) → Refused w → consumeText rows text w ≡ w
 unfolding consumeText
-text-refused rows text w h = guarded-refused _ w h
+text-refused rows text w h = unless-refused _ w h
 
 halt-refused : (w : EntryWriter) → Refused w → stoppedOnce w ≡ w
 halt-refused w h = rw (ne-eqb _ _ h)

@@ -10,19 +10,19 @@ use Rattle.layout.specs.Answers.{limit}
 use Rattle.length.specs.Length.{counted, tooLong, withinLimit, sum}
 
 -- A length within the limit
-pub told-within : (n : ℕ) → n ≤ limit → withinLimit n ≡ counted n
+pub within-limit : (n : ℕ) → n ≤ limit → withinLimit n ≡ counted n
 unfolding withinLimit
-told-within n h = rw (le-leb n limit h)
+within-limit n h = rw (le-leb n limit h)
 
 -- A length above it
-pub told-above : (n : ℕ) → limit < n → withinLimit n ≡ tooLong
+pub above-limit : (n : ℕ) → limit < n → withinLimit n ≡ tooLong
 unfolding withinLimit
-told-above n h = rw (lt-leb n limit h)
+above-limit n h = rw (lt-leb n limit h)
 
 -- The first item of those that are left, and the others
-pub sum-next : (itemLengths : List ℕ) (i : ℕ) → i < length itemLengths → sum (drop i itemLengths) ≡ getD itemLengths i 0 + sum (drop (i + 1) itemLengths)
-sum-next itemLengths i h = rw (add-one, drop-cons itemLengths i 0)
+pub sum-next : (items : List ℕ) (i : ℕ) → i < length items → sum (drop i items) ≡ getD items i 0 + sum (drop (i + 1) items)
+sum-next items i h = rw (add-one, drop-cons items i 0)
 
 -- None is left
-pub sum-end : (itemLengths : List ℕ) (i : ℕ) → length itemLengths ≤ i → sum (drop i itemLengths) ≡ 0
-sum-end itemLengths i h = rw drop-of-length-le
+pub sum-end : (items : List ℕ) (i : ℕ) → length items ≤ i → sum (drop i items) ≡ 0
+sum-end items i h = rw drop-of-length-le

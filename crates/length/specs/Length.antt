@@ -49,4 +49,4 @@ sum (n ∷ ns) = n + sum ns
 
 -- A 4-byte count, then the items, by their lengths
 unfoldable pub listLength : List ℕ → ℕ
-listLength itemLengths = 4 + sum itemLengths
+listLength items = 4 + sum items

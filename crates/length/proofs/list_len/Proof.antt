@@ -7,15 +7,15 @@ use borrow.Author.Needs.{needs}
 use denote.Ref.{now}
 use Rattle.layout.specs.Answers.{limit}
 use Rattle.length.specs.Length.{sum, listLength}
-use Rattle.length.proofs.Sums.{told-within, told-above, sum-next, sum-end}
+use Rattle.length.proofs.Sums.{within-limit, above-limit, sum-next, sum-end}
 use Rattle.length.proofs.list_len.Statement.{statement}
 use Rattle.length.proofs.list_len.Tie as tie
 
 abbrev Inv-loop : tie.InvT-loop
-Inv-loop itemLengths total₀ i₀ total i = (i ≤ length itemLengths) × (total ≤ limit) × (listLength itemLengths ≡ total + sum (drop i itemLengths))
+Inv-loop items total₀ i₀ total i = (i ≤ length items) × (total ≤ limit) × (listLength items ≡ total + sum (drop i items))
 
 abbrev μ-loop : tie.MeasureT-loop
-μ-loop itemLengths total₀ i₀ total i = length itemLengths - i
+μ-loop items total₀ i₀ total i = length items - i
 
 loop-holds : tie.Need-loop-holds Inv-loop μ-loop
 unfolding listLength
@@ -35,8 +35,8 @@ too-long-requires c κs = search needs
 
 returns : tie.Need-returns Inv-loop μ-loop
 returns c =
-    let itemLengths = now (c .before .before .before .before .before .before .args .items) in
-    c .too-long .ensures ∙ sym (told-above (listLength itemLengths) (omega (arith, sum-next itemLengths (c .before .before .before .before .loop .i) (omega arith))))
+    let items = now (c .before .before .before .before .before .before .args .items) in
+    c .too-long .ensures ∙ sym (above-limit (listLength items) (omega (arith, sum-next items (c .before .before .before .before .loop .i) (omega arith))))
 
 add-total : tie.Need-add-total Inv-loop μ-loop
 add-total c = search needs
@@ -52,9 +52,9 @@ loop-again c = (search needs, search needs, omega (arith, sum-next (now (c .befo
 
 returns-2 : tie.Need-returns-2 Inv-loop μ-loop
 returns-2 c =
-    let itemLengths = now (c .before .before .before .args .items) in
-    let e : listLength itemLengths ≡ c .before .loop .total = omega (arith, sum-end itemLengths (c .before .loop .i) (omega arith)) in
-    rw e (sym (told-within (c .before .loop .total) (omega arith)))
+    let items = now (c .before .before .before .args .items) in
+    let e : listLength items ≡ c .before .loop .total = omega (arith, sum-end items (c .before .loop .i) (omega arith)) in
+    rw e (sym (within-limit (c .before .loop .total) (omega arith)))
 
 pub list-len-spec : {M : Type 1} → statement M
 list-len-spec =

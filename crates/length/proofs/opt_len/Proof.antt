@@ -2,7 +2,7 @@
 use native.Mathlib.Omega.{arith}
 use mathlib.Core.Path.{sym}
 use borrow.Author.Needs.{needs}
-use Rattle.length.proofs.Sums.{told-within}
+use Rattle.length.proofs.Sums.{within-limit}
 use Rattle.length.proofs.opt_len.Statement.{statement}
 use Rattle.length.proofs.opt_len.Tie as tie
 
@@ -16,7 +16,7 @@ sum-len-requires : tie.Need-sum-len-requires
 sum-len-requires c κs = search needs
 
 returns : tie.Need-returns
-returns c = rw (c .enum-told .given .1) (sym (told-within 1 (omega arith)))
+returns c = rw (c .enum-told .given .1) (sym (within-limit 1 (omega arith)))
 
 returns-2 : tie.Need-returns-2
 returns-2 c = rw (c .before .before .inner .given .1) (c .sum-len .ensures)

@@ -3,7 +3,7 @@ use borrow.Author.Needs.{needs}
 use Rattle.layout.specs.Layout.{Tag}
 use Rattle.layout.specs.Machine.{drive}
 use Rattle.entry_writer.specs.State.{consumePlain}
-use Rattle.entry_writer.proofs.Steps.{land-sort}
+use Rattle.entry_writer.proofs.Steps.{take-sort}
 use Rattle.entry_writer.proofs.EntryWriter.u8.Statement.{statement}
 use Rattle.entry_writer.proofs.EntryWriter.u8.Tie as tie
 
@@ -12,7 +12,7 @@ number-requires c κs = search needs
 
 returns : tie.Need-returns
 unfolding drive consumePlain
-returns c = rw (← land-sort Tag) (c .number .ensures)
+returns c = rw (← take-sort Tag) (c .number .ensures)
 
 pub u8-spec : {M : Type 1} → statement M
 u8-spec = tie.close (tie.spec number-requires returns)

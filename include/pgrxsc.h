@@ -1,7 +1,7 @@
 /*
  * pgrxsc: a proved reader and writer of pgrx schema sections.
  *
- * Link the archive that `rt staticlib capi` makes (target/staticlib/libcapi.a). It needs nothing but the C library's memset,
+ * Link the archive that `rt staticlib pgrxsc` makes (target/staticlib/libpgrxsc.a). It needs nothing but the C library's memset,
  * reserves no memory, keeps no state and writes nowhere but to what it is lent. So all functions may be called from several
  * threads at a time.
  *

@@ -1,4 +1,4 @@
-//! Finds libcapi.a: in the folder that PGRXSC_LIB names, else where the repository puts it.
+//! Finds libpgrxsc.a: in the folder that PGRXSC_LIB names, else where the repository puts it.
 
 use std::path::PathBuf;
 use std::process::exit;
@@ -12,9 +12,9 @@ fn main() {
         Some(folder) => PathBuf::from(folder),
         None => PathBuf::from("../target/staticlib"),
     };
-    let Ok(archive) = folder.join("libcapi.a").canonicalize() else {
-        eprintln!("There is no libcapi.a in {}.", folder.display());
-        eprintln!("Run `rt staticlib capi` in the repository, which puts it in target/staticlib,");
+    let Ok(archive) = folder.join("libpgrxsc.a").canonicalize() else {
+        eprintln!("There is no libpgrxsc.a in {}.", folder.display());
+        eprintln!("Run `rt staticlib pgrxsc` in the repository, which puts it in target/staticlib,");
         eprintln!("or name the folder that has it in the environment variable PGRXSC_LIB.");
         exit(1);
     };
@@ -22,5 +22,5 @@ fn main() {
 
     println!("cargo:rerun-if-changed={}", archive.display());
     println!("cargo:rustc-link-search=native={}", folder.display());
-    println!("cargo:rustc-link-lib=static=capi");
+    println!("cargo:rustc-link-lib=static=pgrxsc");
 }

@@ -42,7 +42,7 @@
 //!
 //! # Building
 //!
-//! The crate links `libcapi.a`, which `rt staticlib capi` puts in `target/staticlib` of the
+//! The crate links `libpgrxsc.a`, which `rt staticlib pgrxsc` puts in `target/staticlib` of the
 //! repository. For an archive in another folder, name the folder in the environment variable
 //! `PGRXSC_LIB`.
 

@@ -1,0 +1,62 @@
+-- What four numbers tell of a reading, a measuring and a writing.
+use Prim.Native.Nat.{ℕ}
+use native.Mathlib.Omega.{arith}
+use mathlib.Core.Bool.{Bool}
+use mathlib.Core.List.{List}
+use mathlib.Core.Logic.{_↔_}
+use mathlib.Core.Path.{_≡_, refl, sym, ap, subst, _∙_}
+use borrow.Author.Tests.{ne-eqb}
+use Rattle.layout.specs.Layout.{Layout}
+use Rattle.layout.specs.Answers.{Answer, Result}
+use Rattle.layout.specs.Alone.{ExactAlone}
+use Rattle.layout.specs.ReadAlone.{readingAlone}
+use Rattle.layout.specs.Theorems.{Bytes, Told}
+use Rattle.layout.proofs.Alone.{alone-exact, alone-told}
+use Rattle.section.specs.Section.{reading}
+use Rattle.section.specs.Demand3.{Demand3}
+use Rattle.section.proofs.Demand3.{reading-meets, reading-told}
+use Rattle.leaf.specs.Finish.{answerOf, resultOf}
+use Rattle.length.specs.Length.{Length, counted, refused}
+use Rattle.entry_writer.specs.Refusals.{WriteRefusal, not-spelled, bad-text, too-long, no-space}
+use Rattle.pgrxsc.specs.Numbers.{answerNumbers, answerIn, resultIn, lengthNumbers, lengthTold}
+use Rattle.leaf.specs.declared.Answer as declared
+
+-- The numbers of an answer that its number tells, tell that answer
+in-numbers : (a : Answer) → Told a → answerIn (answerNumbers a) ≡ a
+in-numbers a e = ap (λ (b : Bool). record { accepts = b; number = a .number; place = a .place; entities = a .entities; rows = a .rows }) e
+
+-- A reading's answer in numbers, and its table; and what holds of the reading holds of what the numbers tell
+told : (P : Result → Type 0) (numbers : List ℕ) (a : declared.Answer) (table : List ℕ) (r : Result) → numbers ≡ answerNumbers (answerOf a) → resultOf a table ≡ r → Told (r .answer) → P r
+    → (numbers ≡ answerNumbers (r .answer)) × ((table ≡ r .table) × P (resultIn numbers table))
+told P numbers a table r e q t p =
+    let n : numbers ≡ answerNumbers (r .answer) = e ∙ ap (λ (x : Result). answerNumbers (x .answer)) q in
+    let m : table ≡ r .table = ap (λ (x : Result). x .table) q in
+    let k : resultIn numbers table ≡ r = rw (n, m) (ap (λ (x : Answer). record { answer = x; table = r .table }) (in-numbers (r .answer) t)) in
+    (n, (m, subst P (sym k) p))
+
+-- So for a section
+pub section-told : (s lent : List ℕ) → Bytes s → (numbers : List ℕ) (a : declared.Answer) (table : List ℕ) → numbers ≡ answerNumbers (answerOf a) → resultOf a table ≡ reading s lent
+    → (numbers ≡ answerNumbers (reading s lent .answer)) × ((table ≡ reading s lent .table) × Demand3 s lent (resultIn numbers table))
+section-told s lent u numbers a table e q = told (Demand3 s lent) numbers a table (reading s lent) e q (reading-told s u lent) (reading-meets s u lent)
+
+-- And for one value of a layout alone
+pub value-told : (L : Layout) (entities : ℕ) (s lent : List ℕ) → Bytes s → (numbers : List ℕ) (a : declared.Answer) (table : List ℕ) → numbers ≡ answerNumbers (answerOf a) → resultOf a table ≡ readingAlone L entities s lent
+    → (numbers ≡ answerNumbers (readingAlone L entities s lent .answer)) × ((table ≡ readingAlone L entities s lent .table) × ExactAlone L entities s lent (resultIn numbers table))
+value-told L entities s lent u numbers a table e q = told (ExactAlone L entities s lent) numbers a table (readingAlone L entities s lent) e q (alone-told L entities s u lent) (alone-exact L entities s u lent)
+
+-- A refusal of a writing has another number than 0
+writing-some : {L : Layout} {rows text : List ℕ} {size n : ℕ} → WriteRefusal L rows text size n → n ≡ 0 → ⊥
+writing-some (not-spelled h) z = omega arith
+writing-some (bad-text v i s h k g) z = omega arith
+writing-some (too-long v s g h) z = omega arith
+writing-some (no-space v s g h k) z = omega arith
+
+-- The numbers of a length, whose refusals are told by their number, tell that length
+length-in : (l : Length) → ((n p : ℕ) → l ≡ refused n p → n ≡ 0 → ⊥) → lengthTold (lengthNumbers l) ≡ l
+length-in (counted n) h = refl
+length-in (refused n p) h = rw (ne-eqb n 0 (h n p refl))
+
+-- So what holds of the length of a measuring or of a writing, whose refusals are those of a writing, holds of what the numbers tell
+pub length-told : (P : Length → Type 0) {L : Layout} {rows text : List ℕ} {size : ℕ} (numbers : List ℕ) (l : Length) → numbers ≡ lengthNumbers l
+    → ((n p : ℕ) → (l ≡ refused n p) ↔ WriteRefusal L rows text size n × (p ≡ 0)) → P l → P (lengthTold numbers)
+length-told P numbers l e r x = subst P (sym (ap lengthTold e ∙ length-in l λ n p q. writing-some (r n p .0 q .0))) x

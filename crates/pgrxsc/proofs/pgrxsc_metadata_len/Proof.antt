@@ -1,0 +1,24 @@
+-- The answer of the measuring, in numbers.
+use mathlib.Core.Path.{ap, _∙_}
+use denote.Ref.{now}
+use Rattle.layout.specs.Entities.{FunctionMetadataType}
+use Rattle.entry_writer.specs.Refusals.{ExactLength}
+use Rattle.pgrxsc.specs.Numbers.{lengthNumbers}
+use Rattle.pgrxsc.proofs.Numbers.{length-told}
+use Rattle.pgrxsc.proofs.pgrxsc_metadata_len.Statement.{statement}
+use Rattle.pgrxsc.proofs.pgrxsc_metadata_len.Tie as tie
+
+function-metadata-type-len-requires : tie.Need-function-metadata-type-len-requires
+function-metadata-type-len-requires c κs = tt
+
+length-numbers-requires : tie.Need-length-numbers-requires
+length-numbers-requires c κs = tt
+
+returns : tie.Need-returns
+returns c =
+    let a = c .before .before .before .before .args in
+    let e = c .before .function-metadata-type-len .ensures in
+    (c .length-numbers .ensures ∙ ap lengthNumbers (e .0), length-told (ExactLength FunctionMetadataType (now (a .rows)) (now (a .text))) _ _ (c .length-numbers .ensures) (e .1 .refuses) (e .1))
+
+pub pgrxsc-metadata-len-spec : {M : Type 1} → statement M
+pgrxsc-metadata-len-spec = tie.close (tie.spec function-metadata-type-len-requires length-numbers-requires returns)

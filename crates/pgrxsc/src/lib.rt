@@ -1,0 +1,276 @@
+// The functions that programs in other languages call. Each hands its work on and adds nothing but the packing of the answer:
+// four numbers, of which the first two are a refusal's number and place, or 0 and 0.
+use leaf::Answer;
+use length::Length;
+use parts::Row;
+use parts::SqlPlace;
+use paths::PathReport;
+ghost use mathlib.Core.Bool.{true};
+ghost use mathlib.Core.Logic.{_↔_};
+ghost use mathlib.Core.Path.{_≡_};
+ghost use Prim.Native.Nat.{_≤_};
+ghost use lib.ListN.{length};
+ghost use Rattle.text.specs.Rfc3629.{Utf8};
+ghost use Rattle.text.specs.Walk.{utf8};
+ghost use Rattle.layout.specs.Entities.{Entity, SqlMapping, FunctionMetadataType};
+ghost use Rattle.layout.specs.Alone.{ExactAlone};
+ghost use Rattle.layout.specs.ReadAlone.{readingAlone};
+ghost use Rattle.leaf.specs.Finish.{answerOf};
+ghost use Rattle.section.specs.Section.{reading};
+ghost use Rattle.section.specs.Demand3.{Demand3};
+ghost use Rattle.parts.specs.Parts.{rowText, sqlNameIn};
+ghost use Rattle.parts.specs.SqlText.{sqlText, filled, sqlAnswer, sqlAnswerOf};
+ghost use Rattle.paths.specs.Paths.{report, reportOf};
+ghost use Rattle.length.specs.Length.{lengthOf};
+ghost use Rattle.entry_writer.specs.Writing.{measured, write, lengthIn, written};
+ghost use Rattle.entry_writer.specs.Refusals.{ExactLength, ExactWriting};
+ghost use Rattle.pgrxsc.specs.Numbers.{answerNumbers, resultIn, partNumbers, placeNumbers, inBuffer, lengthNumbers, lengthTold, reportNumbers, pairsIn};
+ghost use Rattle.pgrxsc.specs.Private.{toldPart};
+
+// Reads a whole section. The third number is that of entities, the fourth that of rows.
+#[no_mangle]
+pub extern "C" fn pgrxsc_read_section(bytes: &[u8], table: &mut [u32], answer: &mut [u64; 4])
+    ensures { λ r. ⌜ now (answer .exit) ≡ answerNumbers (reading (now (bytes .entry)) (now (table .entry)) .answer) ⌝ }
+    ensures { λ r. ⌜ now (table .exit) ≡ reading (now (bytes .entry)) (now (table .entry)) .table ⌝ }
+    ensures { λ r. ⌜ Demand3 (now (bytes .entry)) (now (table .entry)) (resultIn (now (answer .exit)) (now (table .exit))) ⌝ }
+{
+    *answer = answer_numbers(section::decode_entities(bytes, table));
+}
+
+// The same for one payload alone.
+#[no_mangle]
+pub extern "C" fn pgrxsc_read_payload(bytes: &[u8], table: &mut [u32], answer: &mut [u64; 4])
+    ensures { λ r. ⌜ now (answer .exit) ≡ answerNumbers (readingAlone Entity 1 (now (bytes .entry)) (now (table .entry)) .answer) ⌝ }
+    ensures { λ r. ⌜ now (table .exit) ≡ readingAlone Entity 1 (now (bytes .entry)) (now (table .entry)) .table ⌝ }
+    ensures { λ r. ⌜ ExactAlone Entity 1 (now (bytes .entry)) (now (table .entry)) (resultIn (now (answer .exit)) (now (table .exit))) ⌝ }
+{
+    *answer = answer_numbers(entity::decode_entity(bytes, table));
+}
+
+// The same for one metadata record alone.
+#[no_mangle]
+pub extern "C" fn pgrxsc_read_metadata(bytes: &[u8], table: &mut [u32], answer: &mut [u64; 4])
+    ensures { λ r. ⌜ now (answer .exit) ≡ answerNumbers (readingAlone FunctionMetadataType 0 (now (bytes .entry)) (now (table .entry)) .answer) ⌝ }
+    ensures { λ r. ⌜ now (table .exit) ≡ readingAlone FunctionMetadataType 0 (now (bytes .entry)) (now (table .entry)) .table ⌝ }
+    ensures { λ r. ⌜ ExactAlone FunctionMetadataType 0 (now (bytes .entry)) (now (table .entry)) (resultIn (now (answer .exit)) (now (table .exit))) ⌝ }
+{
+    *answer = answer_numbers(metadata::decode_function_metadata_type(bytes, table));
+}
+
+// The same for one mapping alone.
+#[no_mangle]
+pub extern "C" fn pgrxsc_read_mapping(bytes: &[u8], table: &mut [u32], answer: &mut [u64; 4])
+    ensures { λ r. ⌜ now (answer .exit) ≡ answerNumbers (readingAlone SqlMapping 0 (now (bytes .entry)) (now (table .entry)) .answer) ⌝ }
+    ensures { λ r. ⌜ now (table .exit) ≡ readingAlone SqlMapping 0 (now (bytes .entry)) (now (table .entry)) .table ⌝ }
+    ensures { λ r. ⌜ ExactAlone SqlMapping 0 (now (bytes .entry)) (now (table .entry)) (resultIn (now (answer .exit)) (now (table .exit))) ⌝ }
+{
+    *answer = answer_numbers(metadata::decode_sql_mapping(bytes, table));
+}
+
+// The text of a row of three numbers. The third number is its start in the bytes, the fourth its length.
+#[no_mangle]
+pub extern "C" fn pgrxsc_row_text(
+    bytes: &[u8],
+    sort: u32,
+    offset: u32,
+    value: u32,
+    answer: &mut [u64; 4],
+)
+    ensures { λ r. ⌜ now (answer .exit) ≡ partNumbers (rowText (now (bytes .entry)) (record { sort = sort; offset = offset; value = value })) ⌝ }
+{
+    let row = Row {
+        sort,
+        offset,
+        value,
+    };
+    let mut number = 0;
+    let mut place = 0;
+    let text = parts::row_text(bytes, row, &mut number, &mut place);
+    let end = offset as u64 + value as u64;
+    *answer = part_numbers(number, place, end, text.len() as u64);
+}
+
+// The same for the SQL name of a declaration, from the row of the declaration's name.
+#[no_mangle]
+pub extern "C" fn pgrxsc_sql_name(
+    bytes: &[u8],
+    sort: u32,
+    offset: u32,
+    value: u32,
+    answer: &mut [u64; 4],
+)
+    ensures { λ r. ⌜ now (answer .exit) ≡ partNumbers (sqlNameIn (now (bytes .entry)) (rowText (now (bytes .entry)) (record { sort = sort; offset = offset; value = value }))) ⌝ }
+{
+    let row = Row {
+        sort,
+        offset,
+        value,
+    };
+    let mut number = 0;
+    let mut place = 0;
+    let name = parts::sql_name(bytes, row, &mut number, &mut place);
+    let end = offset as u64 + value as u64;
+    *answer = part_numbers(number, place, end, name.len() as u64);
+}
+
+// The SQL text of the mapping at an offset. The third number is its start, the fourth its length: in the buffer if 1 is returned,
+// else in the bytes.
+#[no_mangle]
+pub extern "C" fn pgrxsc_sql_text(
+    bytes: &[u8],
+    offset: u32,
+    buffer: &mut [u8],
+    answer: &mut [u64; 4],
+) -> u32
+    ensures { λ r. ⌜ r ≡ inBuffer (sqlAnswer (sqlText (now (bytes .entry)) offset (length (now (buffer .entry))))) ⌝ }
+    ensures { λ r. ⌜ now (answer .exit) ≡ placeNumbers (sqlAnswer (sqlText (now (bytes .entry)) offset (length (now (buffer .entry))))) ⌝ }
+    ensures { λ r. ⌜ now (buffer .exit) ≡ filled (now (buffer .entry)) (sqlText (now (bytes .entry)) offset (length (now (buffer .entry)))) ⌝ }
+{
+    let place = parts::place_sql_text(bytes, offset, buffer);
+    *answer = place_numbers(place);
+    in_buffer(place)
+}
+
+// Writes a metadata record, from rows and lent text bytes, to the start of dest. The third number is its length.
+#[no_mangle]
+pub extern "C" fn pgrxsc_write_metadata(
+    rows: &[u32],
+    text: &[u8],
+    dest: &mut [u8],
+    answer: &mut [u64; 4],
+)
+    ensures { λ r. ⌜ now (answer .exit) ≡ lengthNumbers (lengthIn (write FunctionMetadataType (now (rows .entry)) (now (text .entry)) (length (now (dest .entry))))) ⌝ }
+    ensures { λ r. ⌜ now (dest .exit) ≡ written (write FunctionMetadataType (now (rows .entry)) (now (text .entry)) (length (now (dest .entry)))) (now (dest .entry)) ⌝ }
+    ensures { λ r. ⌜ ExactWriting FunctionMetadataType (now (rows .entry)) (now (text .entry)) (now (dest .entry)) (lengthTold (now (answer .exit))) (now (dest .exit)) ⌝ }
+{
+    *answer = length_numbers(writer::encode_function_metadata_type(rows, text, dest));
+}
+
+// The same for a mapping.
+#[no_mangle]
+pub extern "C" fn pgrxsc_write_mapping(
+    rows: &[u32],
+    text: &[u8],
+    dest: &mut [u8],
+    answer: &mut [u64; 4],
+)
+    ensures { λ r. ⌜ now (answer .exit) ≡ lengthNumbers (lengthIn (write SqlMapping (now (rows .entry)) (now (text .entry)) (length (now (dest .entry))))) ⌝ }
+    ensures { λ r. ⌜ now (dest .exit) ≡ written (write SqlMapping (now (rows .entry)) (now (text .entry)) (length (now (dest .entry)))) (now (dest .entry)) ⌝ }
+    ensures { λ r. ⌜ ExactWriting SqlMapping (now (rows .entry)) (now (text .entry)) (now (dest .entry)) (lengthTold (now (answer .exit))) (now (dest .exit)) ⌝ }
+{
+    *answer = length_numbers(writer::encode_sql_mapping(rows, text, dest));
+}
+
+// Measures a metadata record, from rows and lent text bytes, before it is written. The third number is its length.
+#[no_mangle]
+pub extern "C" fn pgrxsc_metadata_len(rows: &[u32], text: &[u8], answer: &mut [u64; 4])
+    ensures { λ r. ⌜ now (answer .exit) ≡ lengthNumbers (lengthIn (measured FunctionMetadataType (now (rows .entry)) (now (text .entry)))) ⌝ }
+    ensures { λ r. ⌜ ExactLength FunctionMetadataType (now (rows .entry)) (now (text .entry)) (lengthTold (now (answer .exit))) ⌝ }
+{
+    *answer = length_numbers(writer::function_metadata_type_len(rows, text));
+}
+
+// The same for a mapping.
+#[no_mangle]
+pub extern "C" fn pgrxsc_mapping_len(rows: &[u32], text: &[u8], answer: &mut [u64; 4])
+    ensures { λ r. ⌜ now (answer .exit) ≡ lengthNumbers (lengthIn (measured SqlMapping (now (rows .entry)) (now (text .entry)))) ⌝ }
+    ensures { λ r. ⌜ ExactLength SqlMapping (now (rows .entry)) (now (text .entry)) (lengthTold (now (answer .exit))) ⌝ }
+{
+    *answer = length_numbers(writer::sql_mapping_len(rows, text));
+}
+
+// The number of pairs of entities with the same full_path.
+#[no_mangle]
+pub extern "C" fn pgrxsc_path_pairs(bytes: &[u8], answer: &mut [u64; 4]) -> u64
+    ensures { λ r. ⌜ r ≡ pairsIn (report (now (bytes .entry))) ⌝ }
+    ensures { λ r. ⌜ now (answer .exit) ≡ reportNumbers (report (now (bytes .entry))) ⌝ }
+{
+    let report = paths::path_report(bytes);
+    *answer = report_numbers(report);
+    pairs_in(report)
+}
+
+// Whether the bytes are UTF-8 by RFC 3629.
+#[no_mangle]
+pub extern "C" fn pgrxsc_is_text(bytes: &[u8]) -> bool
+    ensures { λ r. ⌜ r ≡ utf8 (now (bytes .entry)) ⌝ }
+    ensures { λ r. ⌜ (r ≡ true) ↔ Utf8 (now (bytes .entry)) ⌝ }
+{
+    text::is_utf8(bytes)
+}
+
+// What a reading answers, as numbers.
+fn answer_numbers(answer: Answer) -> [u64; 4]
+    ensures { λ r. ⌜ r ≡ answerNumbers (answerOf answer) ⌝ }
+{
+    match answer {
+        Answer::Accepted { entities, rows } => [0, 0, entities as u64, rows as u64],
+        Answer::Refused { number, place } => [number as u64, place as u64, 0, 0],
+    }
+}
+
+// A part of the bytes, as an answer: its length and where it ends; or a refusal's number and place.
+fn part_numbers(number: u32, place: u32, end: u64, len: u64) -> [u64; 4]
+    requires { ⌜ len ≤ end ⌝ }
+    ensures { λ r. ⌜ r ≡ partNumbers (toldPart number place end len) ⌝ }
+{
+    if number != 0 {
+        return [number as u64, place as u64, 0, 0];
+    }
+    [0, 0, end - len, len]
+}
+
+// Where an SQL text stands, as an answer.
+fn place_numbers(place: SqlPlace) -> [u64; 4]
+    ensures { λ r. ⌜ r ≡ placeNumbers (sqlAnswerOf place) ⌝ }
+{
+    match place {
+        SqlPlace::Section { start, len } => [0, 0, start as u64, len as u64],
+        SqlPlace::Buffer { len } => [0, 0, 0, len as u64],
+        SqlPlace::Refused { number, place } => [number as u64, place as u64, 0, 0],
+    }
+}
+
+// Whether it stands in the buffer: 1 or 0.
+fn in_buffer(place: SqlPlace) -> u32
+    ensures { λ r. ⌜ r ≡ inBuffer (sqlAnswerOf place) ⌝ }
+{
+    match place {
+        SqlPlace::Section { start: _, len: _ } => 0,
+        SqlPlace::Buffer { len: _ } => 1,
+        SqlPlace::Refused {
+            number: _,
+            place: _,
+        } => 0,
+    }
+}
+
+// A length, as an answer.
+fn length_numbers(length: Length) -> [u64; 4]
+    ensures { λ r. ⌜ r ≡ lengthNumbers (lengthOf length) ⌝ }
+{
+    match length {
+        Length::Counted { count } => [0, 0, count as u64, 0],
+        Length::Refused { number, place } => [number as u64, place as u64, 0, 0],
+    }
+}
+
+// A path report, as numbers.
+fn report_numbers(report: PathReport) -> [u64; 4]
+    ensures { λ r. ⌜ r ≡ reportNumbers (reportOf report) ⌝ }
+{
+    match report {
+        PathReport::Counted { pairs: _ } => [0, 0, 0, 0],
+        PathReport::Refused { number, place } => [number as u64, place as u64, 0, 0],
+    }
+}
+
+// The pairs of a path report, 0 after a refusal.
+fn pairs_in(report: PathReport) -> u64
+    ensures { λ r. ⌜ r ≡ pairsIn (reportOf report) ⌝ }
+{
+    let PathReport::Counted { pairs } = report else {
+        return 0;
+    };
+    pairs
+}

@@ -23,7 +23,7 @@ pub fn read_positioning_ref_list(c: Cursor, s: &[u8], t: &mut [u32]) -> Cursor
 {
     let mut c = c.read_count(s, t);
     let count = c.value;
-    let mut i: usize = 0;
+    let mut i: u32 = 0;
     while i < count {
         if c.refusal != 0 {
             return c;
@@ -53,7 +53,7 @@ pub fn read_extern_arg(c: Cursor, s: &[u8], t: &mut [u32]) -> Cursor
         layout::EXTERN_ARG_SHOULD_PANIC..=layout::EXTERN_ARG_SCHEMA => c.read_str(s, t),
         layout::EXTERN_ARG_SUPPORT => read_positioning_ref(c, s, t),
         layout::EXTERN_ARG_NAME..=layout::EXTERN_ARG_COST => c.read_str(s, t),
-        layout::EXTERN_ARG_REQUIRES => read_positioning_ref_list(c.anew(), s, t),
+        layout::EXTERN_ARG_REQUIRES => read_positioning_ref_list(c.copy(), s, t),
         _ => c.refused(9, at),
     }
 }
@@ -63,7 +63,7 @@ pub fn read_extern_arg_list(c: Cursor, s: &[u8], t: &mut [u32]) -> Cursor
 {
     let mut c = c.read_count(s, t);
     let count = c.value;
-    let mut i: usize = 0;
+    let mut i: u32 = 0;
     while i < count {
         if c.refusal != 0 {
             return c;
@@ -79,7 +79,7 @@ pub fn read_search_path(c: Cursor, s: &[u8], t: &mut [u32]) -> Cursor
 {
     let c = c.read_bool(s, t);
     if c.value != 0 {
-        return read_str_list(c.anew(), s, t);
+        return read_str_list(c.copy(), s, t);
     }
     c
 }
@@ -89,7 +89,7 @@ pub fn read_str_list(c: Cursor, s: &[u8], t: &mut [u32]) -> Cursor
 {
     let mut c = c.read_count(s, t);
     let count = c.value;
-    let mut i: usize = 0;
+    let mut i: u32 = 0;
     while i < count {
         if c.refusal != 0 {
             return c;

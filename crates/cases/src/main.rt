@@ -15,18 +15,22 @@
 //   the table has, and these; the bytes are the lent text. The answer is 0, 0 and the length, or a refusal's number and place;
 //   then the whole destination.
 // - V is the measuring of a metadata record, and v that of one mapping. They stand as W and w, with a destination of 0 bytes.
+// - U is the text check. Its number is 0. The answer is `yes` or `no`, whether the bytes are UTF-8; or `parts`, if some walk over
+//   them in two parts tells otherwise.
 //
 // A case that differs is printed, and below it what was answered. At the end stand how many cases were run and how many differ,
 // and the tally of the sections accepted and refused.
-use leaf::Answer;
-use leaf::ROW_WIDTH;
+use layout::ROW_WIDTH;
 use length::Length;
 use libc::STDIN_FILENO;
 use libc::STDOUT_FILENO;
-use parts::Row;
 use paths::PathReport;
+use table::Answer;
+use table::Refusal;
+use table::Row;
 use tally::Tallied;
 use tally::Tally;
+use text::State;
 ghost use Prim.Native.Nat.{_≤_};
 ghost use lib.ListN.{length};
 
@@ -43,6 +47,8 @@ const CASE_NUMBERS: usize = MOST_NUMBERS + 2;
 
 // What each number that is lent is before the call.
 const FILL: u32 = 4294967295;
+
+const FILL_PLACE: usize = 4294967295;
 
 // The most bytes of a buffer that is lent to be filled, and what each is before the call.
 const MOST_BUFFER: usize = 512;
@@ -427,6 +433,7 @@ fn answer_other(
         b'O' => objects(s, out),
         b'R' => path_report(s, out),
         b'W' | b'w' | b'V' | b'v' => write(letter, numbers, s, out),
+        b'U' => text_check(s, out),
         _ => bad_case(out),
     }
 }
@@ -492,7 +499,7 @@ fn spell(answer: Answer, t: &[u32], out: &mut [u8; OUT_SIZE]) -> usize {
 fn spell_answer(answer: Answer, out: &mut [u8; OUT_SIZE]) -> usize {
     match answer {
         Answer::Accepted { entities, rows } => spell_counts(entities, rows, out),
-        Answer::Refused { number, place } => put_refusal(out, 0, number, place),
+        Answer::Refused(refusal) => put_refusal(out, 0, refusal),
     }
 }
 
@@ -503,7 +510,7 @@ fn spell_counts(entities: usize, rows: usize, out: &mut [u8; OUT_SIZE]) -> usize
 
 // Puts the two 0 of what is not refused, and the number behind them.
 fn spell_accepted(n: u64, out: &mut [u8; OUT_SIZE]) -> usize {
-    let end = put_refusal(out, 0, 0, 0);
+    let end = put(out, 0, b"0 0");
     put_number(out, end, n)
 }
 
@@ -519,10 +526,7 @@ fn used_numbers(answer: Answer, t: &[u32]) -> usize
                 t.len()
             }
         }
-        Answer::Refused {
-            number: _,
-            place: _,
-        } => 0,
+        Answer::Refused(_) => 0,
     }
 }
 
@@ -553,10 +557,7 @@ fn objects_with(s: &[u8], t: &mut [u32], out: &mut [u8; OUT_SIZE]) -> usize {
             s,
             out,
         ),
-        Answer::Refused {
-            number: _,
-            place: _,
-        } => put(out, 0, b"refuse"),
+        Answer::Refused(_) => put(out, 0, b"refuse"),
     }
 }
 
@@ -586,11 +587,11 @@ fn put_field(out: &mut [u8; OUT_SIZE], at: usize, t: &[u32], s: &[u8]) -> usize 
     if t.len() != ROW_WIDTH {
         return at;
     }
-    if t[0] != leaf::SORT_TEXT {
+    if t[0] != layout::SORT_TEXT {
         return put_four(out, at, t[2]);
     }
     let mut number = FILL;
-    let mut place = FILL;
+    let mut place = FILL_PLACE;
     let row = Row {
         sort: t[0],
         offset: t[1],
@@ -614,20 +615,20 @@ fn path_report(s: &[u8], out: &mut [u8; OUT_SIZE]) -> usize {
     let report = paths::path_report(s);
     match report {
         PathReport::Counted { pairs } => spell_accepted(pairs, out),
-        PathReport::Refused { number, place } => put_refusal(out, 0, number, place),
+        PathReport::Refused(refusal) => put_refusal(out, 0, refusal),
     }
 }
 
 fn row_text(numbers: &[u32; CASE_NUMBERS], s: &[u8], out: &mut [u8; OUT_SIZE]) -> usize {
     let mut number = FILL;
-    let mut place = FILL;
+    let mut place = FILL_PLACE;
     let part = parts::row_text(s, row(numbers), &mut number, &mut place);
     spell_part(number, place, part, out)
 }
 
 fn sql_name(numbers: &[u32; CASE_NUMBERS], s: &[u8], out: &mut [u8; OUT_SIZE]) -> usize {
     let mut number = FILL;
-    let mut place = FILL;
+    let mut place = FILL_PLACE;
     let part = parts::sql_name(s, row(numbers), &mut number, &mut place);
     spell_part(number, place, part, out)
 }
@@ -640,8 +641,8 @@ fn row(numbers: &[u32; CASE_NUMBERS]) -> Row {
     }
 }
 
-fn spell_part(number: u32, place: u32, part: &[u8], out: &mut [u8; OUT_SIZE]) -> usize {
-    let end = put_refusal(out, 0, number, wide_number(place) as usize);
+fn spell_part(number: u32, place: usize, part: &[u8], out: &mut [u8; OUT_SIZE]) -> usize {
+    let end = put_refusal(out, 0, Refusal { number, place });
     put_bytes(out, end, part)
 }
 
@@ -656,15 +657,15 @@ fn sql_text(numbers: &[u32; CASE_NUMBERS], s: &[u8], out: &mut [u8; OUT_SIZE]) -
 
 fn sql_text_with(s: &[u8], offset: u32, buffer: &mut [u8], out: &mut [u8; OUT_SIZE]) -> usize {
     let mut number = FILL;
-    let mut place = FILL;
+    let mut place = FILL_PLACE;
     parts::fill_sql_text(s, offset, buffer, &mut number, &mut place);
     let end = sql_part(s, offset, buffer, out);
-    put_refusal(out, end, number, wide_number(place) as usize)
+    put_refusal(out, end, Refusal { number, place })
 }
 
 fn sql_part<'a>(s: &'a [u8], offset: u32, buffer: &'a [u8], out: &mut [u8; OUT_SIZE]) -> usize {
     let mut number = FILL;
-    let mut place = FILL;
+    let mut place = FILL_PLACE;
     let part = parts::sql_text(s, offset, buffer, &mut number, &mut place);
     let end = spell_part(number, place, part, out);
     put_bytes(out, end, buffer)
@@ -711,8 +712,36 @@ fn encode(letter: u8, rows: &[u32], text: &[u8], dest: &mut [u8]) -> Length {
 fn spell_length(length: Length, out: &mut [u8; OUT_SIZE]) -> usize {
     match length {
         Length::Counted { count } => spell_accepted(count as u64, out),
-        Length::Refused { number, place } => put_refusal(out, 0, number, place),
+        Length::Refused(refusal) => put_refusal(out, 0, refusal),
     }
+}
+
+fn text_check(s: &[u8], out: &mut [u8; OUT_SIZE]) -> usize {
+    let yes = text::is_utf8(s);
+    if !same_in_parts(s, yes) {
+        put(out, 0, b"parts")
+    } else if yes {
+        put(out, 0, b"yes")
+    } else {
+        put(out, 0, b"no")
+    }
+}
+
+// Whether a walk over s in two parts, wherever they part, tells what the check told.
+fn same_in_parts(s: &[u8], yes: bool) -> bool {
+    let mut k = 0;
+    while k <= s.len() {
+        let first = text::walk(State::Start, &s[0..k]);
+        if ends_a_character(text::walk(first, &s[k..])) != yes {
+            return false;
+        }
+        k += 1;
+    }
+    true
+}
+
+fn ends_a_character(q: State) -> bool {
+    if let State::Start = q { true } else { false }
 }
 
 // Each of these puts something into out from the place at on, as far as there is room, and answers the place behind it. A blank
@@ -755,9 +784,9 @@ fn put_numbers(out: &mut [u8; OUT_SIZE], at: usize, t: &[u32]) -> usize {
     end
 }
 
-fn put_refusal(out: &mut [u8; OUT_SIZE], at: usize, number: u32, place: usize) -> usize {
-    let end = put_number(out, at, wide_number(number));
-    put_number(out, end, place as u64)
+fn put_refusal(out: &mut [u8; OUT_SIZE], at: usize, refusal: Refusal) -> usize {
+    let end = put_number(out, at, wide_number(refusal.number));
+    put_number(out, end, refusal.place as u64)
 }
 
 fn put_bytes(out: &mut [u8; OUT_SIZE], at: usize, s: &[u8]) -> usize {

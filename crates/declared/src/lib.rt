@@ -32,16 +32,16 @@ pub fn read_declared_sql(c: Cursor, s: &[u8], t: &mut [u32]) -> Cursor
     ensures { λ r. ⌜ readState r (now (t .exit)) ≡ run DeclaredSql (now (s .entry)) (readState c (now (t .entry))) ⌝ }
 {
     let at = c.at;
-    let c = metadata::read_argument_sql(c.anew(), s, t);
+    let c = metadata::read_argument_sql(c.copy(), s, t);
     if c.refusal != 0 {
         return c;
     }
-    let result = wide(s[at]);
+    let result = bytes::wide(s[at]);
     if result != layout::RESULT_OK {
         return c.refused(11, at);
     }
     let tag = at + 1;
-    let mapping = wide(s[tag]);
+    let mapping = bytes::wide(s[tag]);
     match mapping {
         layout::SQL_MAPPING_AS => c,
         layout::SQL_MAPPING_NUMERIC => c,
@@ -54,7 +54,7 @@ pub fn read_sql_declared_list(c: Cursor, s: &[u8], t: &mut [u32]) -> Cursor
 {
     let mut c = c.read_count(s, t);
     let count = c.value;
-    let mut i: usize = 0;
+    let mut i: u32 = 0;
     while i < count {
         if c.refusal != 0 {
             return c;
@@ -63,10 +63,4 @@ pub fn read_sql_declared_list(c: Cursor, s: &[u8], t: &mut [u32]) -> Cursor
         i += 1;
     }
     c
-}
-
-fn wide(x: u8) -> usize
-    ensures { λ r. ⌜ r ≡ x ⌝ }
-{
-    x as usize
 }

@@ -1,6 +1,6 @@
 // The nine entities, and one payload alone.
-use leaf::Answer;
 use leaf::Cursor;
+use table::Answer;
 ghost use mathlib.Core.Path.{_≡_};
 ghost use Rattle.layout.specs.Entities.{FinalizeModify, OptionFinalizeModify};
 ghost use Rattle.layout.specs.Entities.{ParallelOption, OptionParallelOption, OptionUsedType, OptionAggregateTypeList};
@@ -9,7 +9,7 @@ ghost use Rattle.layout.specs.Alone.{ExactAlone};
 ghost use Rattle.layout.specs.ReadAlone.{readingAlone};
 ghost use Rattle.leaf.specs.State.{readState};
 ghost use Rattle.leaf.specs.Run.{run};
-ghost use Rattle.leaf.specs.Finish.{resultOf};
+ghost use Rattle.table.specs.Answers.{resultOf};
 ghost use Rattle.entity.specs.Private.{NameFileLine, TypePaths, CustomSqlText, FunctionSignature, FunctionOrigin, FunctionOptions};
 ghost use Rattle.entity.specs.Private.{TypeFunctions, AggregateName, AggregateTypes, AggregateFunctions, MovingAggregate, AggregateOptions};
 
@@ -112,7 +112,7 @@ pub fn read_custom_sql(c: Cursor, s: &[u8], t: &mut [u32]) -> Cursor
     let c = read_custom_sql_text(c, s, t);
     let c = c.read_bool(s, t); // bootstrap
     let c = c.read_bool(s, t); // finalize
-    let c = attribute::read_positioning_ref_list(c.anew(), s, t); // requires
+    let c = attribute::read_positioning_ref_list(c.copy(), s, t); // requires
     declared::read_sql_declared_list(c, s, t) // creates
 }
 
@@ -204,7 +204,7 @@ pub fn read_enum(c: Cursor, s: &[u8], t: &mut [u32]) -> Cursor
 {
     let c = read_name_file_line(c, s, t);
     let c = read_type_paths(c, s, t);
-    let c = attribute::read_str_list(c.anew(), s, t); // variants
+    let c = attribute::read_str_list(c.copy(), s, t); // variants
     attribute::read_to_sql_config(c, s, t) // to_sql_config
 }
 
@@ -294,5 +294,5 @@ pub fn decode_entity(payload: &[u8], t: &mut [u32]) -> Answer
     ensures { λ r. ⌜ ExactAlone Entity 1 (now (payload .entry)) (now (t .entry)) (resultOf r (now (t .exit))) ⌝ }
 {
     let c = read_entity(Cursor::new(), payload, t);
-    c.finish(payload, t, 1)
+    c.answer_alone(payload, t, 1)
 }

@@ -12,7 +12,7 @@ use Rattle.layout.specs.Written.{bytes}
 use Rattle.layout.specs.Reading.{Outcome, ok, refuse, _>>=_, need}
 use Rattle.layout.specs.Answers.{limit, wholeRows}
 use Rattle.layout.proofs.Walk.{All, given, all-bind, all-need, all-ok, all-when}
-use Rattle.length.specs.Length.{Length, counted, refused}
+use Rattle.table.specs.Answers.{Total, counted, uncounted}
 use Rattle.entry_writer.specs.Rows.{goodRows}
 use Rattle.entry_writer.specs.Writing.{spelled, measured, write, lengthIn, written}
 use Rattle.entry_writer.specs.Refusals.{Writable, WriteRefusal, ExactWriting}
@@ -24,7 +24,7 @@ counted-is : (o : Outcome ℕ (List ℕ)) (n : ℕ) → lengthIn o ≡ counted n
 counted-is (ok b k) n e = (b, cc)
 counted-is (refuse k p) n e = let z : _≡_ {A = ℕ} 0 1 = cc in absurd (omega arith)
 
-refused-is : (o : Outcome ℕ (List ℕ)) (n p : ℕ) → lengthIn o ≡ refused n p → o ≡ refuse n p
+refused-is : (o : Outcome ℕ (List ℕ)) (n p : ℕ) → lengthIn o ≡ uncounted n p → o ≡ refuse n p
 refused-is (ok b k) n p e = let z : _≡_ {A = ℕ} 0 1 = cc in absurd (omega arith)
 refused-is (refuse k q) n p e = cc
 
@@ -58,7 +58,7 @@ module _ (L : Layout) (rows text : List ℕ) (size : ℕ) where
           let q : n ≡ length (bytes L v) = y ∙ ap length x in
           (v, record { spells = s; texts = good; small = omega arith }, q, fits)
 
-  refuses : (n p : ℕ) → (lengthIn (write L rows text size) ≡ refused n p) ↔ (WriteRefusal L rows text size n × (p ≡ 0))
+  refuses : (n p : ℕ) → (lengthIn (write L rows text size) ≡ uncounted n p) ↔ (WriteRefusal L rows text size n × (p ≡ 0))
   refuses n p = (λ e. write-refused L rows text size n p .0 (refused-is _ n p e), λ h. rw (write-refused L rows text size n p .1 h))
 
 proper : (L : Layout) (rows text : List ℕ) (v : Value L) → Writable L rows text v → Proper L v
@@ -87,5 +87,5 @@ exact-writing L rows text dest = record {
 }
 
 -- And so does what equals it
-pub exact-as : (L : Layout) (rows text dest : List ℕ) (l : Length) (after : List ℕ) → l ≡ lengthIn (write L rows text (length dest)) → after ≡ written (write L rows text (length dest)) dest → ExactWriting L rows text dest l after
+pub exact-as : (L : Layout) (rows text dest : List ℕ) (l : Total) (after : List ℕ) → l ≡ lengthIn (write L rows text (length dest)) → after ≡ written (write L rows text (length dest)) dest → ExactWriting L rows text dest l after
 exact-as L rows text dest l after e f = rw (e, f) (exact-writing L rows text dest)

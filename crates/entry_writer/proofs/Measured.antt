@@ -13,7 +13,7 @@ use Rattle.layout.specs.Written.{textSort, leafBytes, bytesOf, bytes, rowWidth,
 use Rattle.layout.specs.Reading.{Outcome, ok, refuse, _>>=_, need, walk, leavesAt, utf8}
 use Rattle.layout.specs.Answers.{limit, wholeRows}
 use Rattle.layout.proofs.Follow.{Gait, Keeps, pushAll, Follows, moved, stops, moved-of, stops-of, follow}
-use Rattle.length.specs.Length.{counted, refused}
+use Rattle.table.specs.Answers.{counted, uncounted}
 use Rattle.entry_writer.specs.Rows.{isRow, plainIn, lentAt, textIn, inRows, staysAt, goodAt, goodRows}
 use Rattle.entry_writer.specs.Writing.{fourteen, spelled, measured, lengthIn}
 use Rattle.entry_writer.specs.Refusals.{RowGives}
@@ -183,25 +183,25 @@ unfolding closing
 finished-by L rows text v end w z r b p = rw (z, r) (whole (eqb (rowWidth * end) (length rows)) refl)
   where
     fit : (a : Bool) → leb (length (bytes L v)) limit ≡ a
-        → cond (leb (cap (length (bytes L v))) limit) (counted (cap (length (bytes L v)))) (refused 16 0) ≡ lengthIn (need a 16 0 (ok (bytes L v) (length (bytes L v))))
+        → cond (leb (cap (length (bytes L v))) limit) (counted (cap (length (bytes L v)))) (uncounted 16 0) ≡ lengthIn (need a 16 0 (ok (bytes L v) (length (bytes L v))))
     fit true e = rw (e, e)
     fit false e = rw e
 
     good : (a : Bool) → goodRows rows text (wholeRows rows) ≡ a
-        → cond (not a) (refused 15 0) (cond (leb (w .pos) limit) (counted (w .pos)) (refused 16 0))
+        → cond (not a) (uncounted 15 0) (cond (leb (w .pos) limit) (counted (w .pos)) (uncounted 16 0))
         ≡ lengthIn (need a 15 0 (need (leb (length (bytes L v)) limit) 16 0 (ok (bytes L v) (length (bytes L v)))))
     good true e = rw (p e) (fit (leb (length (bytes L v)) limit) refl)
     good false e = refl
 
     whole : (a : Bool) → eqb (rowWidth * end) (length rows) ≡ a
-        → cond a (cond (w .bad) (refused 15 0) (cond (leb (w .pos) limit) (counted (w .pos)) (refused 16 0))) (refused 14 0)
+        → cond a (cond (w .bad) (uncounted 15 0) (cond (leb (w .pos) limit) (counted (w .pos)) (uncounted 16 0))) (uncounted 14 0)
         ≡ lengthIn (fourteen (need a 14 0 (ok v end)) >>= λ x e.
         need (goodRows rows text (wholeRows rows)) 15 0 (need (leb (length (bytes L x)) limit) 16 0 (ok (bytes L x) (length (bytes L x)))))
     whole true e = rw (b (eqb-true _ _ e)) (good (goodRows rows text (wholeRows rows)) refl)
     whole false e = refl
 
 -- The end of a writing that was refused
-closing-refused : (rows : List ℕ) (w : EntryWriter) → w .refusal ≡ 14 → closing rows w ≡ refused 14 0
+closing-refused : (rows : List ℕ) (w : EntryWriter) → w .refusal ≡ 14 → closing rows w ≡ uncounted 14 0
 unfolding closing
 closing-refused rows w e = rw e
 

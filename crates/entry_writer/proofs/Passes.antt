@@ -9,7 +9,7 @@ use lib.ListN.{length, drop}
 use Rattle.layout.specs.Layout.{Layout, leaves}
 use Rattle.layout.specs.Written.{bytes}
 use Rattle.layout.specs.Reading.{Outcome, ok, refuse, _>>=_, need}
-use Rattle.length.specs.Length.{Length, counted, refused}
+use Rattle.table.specs.Answers.{Total, counted, uncounted}
 use Rattle.entry_writer.specs.declared.EntryWriter.{EntryWriter}
 use Rattle.entry_writer.specs.Writing.{measured, write, fitting, lengthIn, written}
 use Rattle.entry_writer.specs.State.{newWriter}
@@ -25,7 +25,7 @@ write-length : (L : Layout) (rows text : List ℕ) (size : ℕ) → fitting (len
 unfolding write
 write-length L rows text size = go (measured L rows text)
   where
-    fits : (t : Bool) (b : List ℕ) (n : ℕ) → cond t (counted n) (refused 17 0) ≡ lengthIn (need t 17 0 (ok b n))
+    fits : (t : Bool) (b : List ℕ) (n : ℕ) → cond t (counted n) (uncounted 17 0) ≡ lengthIn (need t 17 0 (ok b n))
     fits true b n = refl
     fits false b n = refl
 
@@ -33,16 +33,16 @@ write-length L rows text size = go (measured L rows text)
     go (ok b n) = fits (leb n size) b n
     go (refuse n p) = refl
 
-not-refused : (k n p : ℕ) → counted k ≡ refused n p → ⊥
+not-refused : (k n p : ℕ) → counted k ≡ uncounted n p → ⊥
 not-refused k n p z = let w : _≡_ {A = ℕ} 0 1 = cc in omega arith
 
 -- The first pass gives the length
-pub first-pass : (L : Layout) (rows text : List ℕ) (w r : EntryWriter) (l : Length) → w ≡ newWriter → r ≡ consume L rows text w → l ≡ closing rows r → (l ≡ lengthIn (measured L rows text)) × ExactLength L rows text l
+pub first-pass : (L : Layout) (rows text : List ℕ) (w r : EntryWriter) (l : Total) → w ≡ newWriter → r ≡ consume L rows text w → l ≡ closing rows r → (l ≡ lengthIn (measured L rows text)) × ExactLength L rows text l
 first-pass L rows text w r l a b e =
     let q : l ≡ lengthIn (measured L rows text) = e ∙ ap (closing rows) (b ∙ ap (consume L rows text) a) ∙ measured-law L rows text in
     (q, subst (ExactLength L rows text) (sym q) (exact-length L rows text))
 
-module _ (L : Layout) (rows text dest : List ℕ) (m l : Length) (e : m ≡ lengthIn (measured L rows text)) (f : l ≡ fitting m (length dest)) where
+module _ (L : Layout) (rows text dest : List ℕ) (m l : Total) (e : m ≡ lengthIn (measured L rows text)) (f : l ≡ fitting m (length dest)) where
   -- The length and the destination that a writing promises
   abbrev Encoded : (after : List ℕ) → Type 0
   Encoded after =
@@ -52,10 +52,10 @@ module _ (L : Layout) (rows text dest : List ℕ) (m l : Length) (e : m ≡ leng
   encoded after x y = (x, (y, exact-as L rows text dest l after x y))
 
   whole : l ≡ lengthIn (write L rows text (length dest))
-  whole = f ∙ ap (λ (x : Length). fitting x (length dest)) e ∙ write-length L rows text (length dest)
+  whole = f ∙ ap (λ (x : Total). fitting x (length dest)) e ∙ write-length L rows text (length dest)
 
   -- No second pass
-  pub refused-whole : (n p : ℕ) → l ≡ refused n p → Encoded dest
+  pub refused-whole : (n p : ℕ) → l ≡ uncounted n p → Encoded dest
   refused-whole n p q = go (write L rows text (length dest)) refl
     where
       go : (o : Outcome ℕ (List ℕ)) → write L rows text (length dest) ≡ o → Encoded dest

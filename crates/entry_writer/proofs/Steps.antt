@@ -21,7 +21,7 @@ use Rattle.entry_writer.proofs.Spelled.{is-row}
 use Rattle.entry_writer.proofs.Row.{stays-within}
 use Rattle.text.specs.Walk as automaton
 
--- A number lands as its sort arrives
+-- A number that is taken arrives as a leaf of its sort
 pub take-sort : (srt : Sort) (o : Outcome ℕ ℕ) (w : EntryWriter) → takeNumber (length (plainBytes srt 0)) o w ≡ arrivePlain srt o w
 take-sort Kind (ok n next) w = refl
 take-sort Tag (ok n next) w = refl
@@ -31,8 +31,8 @@ take-sort Count (ok n next) w = refl
 take-sort srt (refuse n p) w = refl
 
 -- A row of a sort is one of the whole rows
-pub row-there : (rows : List ℕ) (i sort : ℕ) (t : Bool) → t ≡ isRow rows i sort → not t ≡ false → i < wholeRows rows
-row-there rows i sort t e h = is-row rows i sort (sym e ∙ not-false t h) .0
+pub row-inside : (rows : List ℕ) (i sort : ℕ) (t : Bool) → t ≡ isRow rows i sort → not t ≡ false → i < wholeRows rows
+row-inside rows i sort t e h = is-row rows i sort (sym e ∙ not-false t h) .0
 
 pub refused-stays : (w out : EntryWriter) → (w .refusal ≡ 0 → ⊥) → w ≡ unlessRefused out w
 refused-stays w out h = sym (unless-refused out w h)
@@ -55,8 +55,8 @@ module _ (rows : List ℕ) (w : EntryWriter) (z : w .refusal ≡ 0) (size sort b
   pub number-large : bound ≤ n → (r : EntryWriter) → r ≡ stoppedWriter w → r ≡ unlessRefused (takeNumber size (numberFrom rows sort bound (w .row)) w) w
   number-large k r s = step-of w _ _ z (rw (← e, not-false t h, ← q, le-ltb n bound k) s)
 
-  pub number-lands : n < bound → (r : EntryWriter) → r ≡ past n size w → r ≡ unlessRefused (takeNumber size (numberFrom rows sort bound (w .row)) w) w
-  number-lands k r s = step-of w _ _ z (rw (← e, not-false t h, ← q, lt-ltb n bound k) s)
+  pub number-taken : n < bound → (r : EntryWriter) → r ≡ past n size w → r ≡ unlessRefused (takeNumber size (numberFrom rows sort bound (w .row)) w) w
+  number-taken k r s = step-of w _ _ z (rw (← e, not-false t h, ← q, lt-ltb n bound k) s)
 
 -- The text of a row
 module _ (rows text : List ℕ) (w : EntryWriter) (z : w .refusal ≡ 0) (t : Bool) (e : t ≡ isRow rows (w .row) textSort) (h : not t ≡ false) (start n : ℕ) (p : start ≡ offsetAt rows (w .row)) (q : n ≡ valueAt rows (w .row)) (s : Bool) (b : s ≡ leb (start + n) (length text)) where

@@ -8,7 +8,7 @@ use Rattle.text.specs.Rfc3629.{Utf8}
 use Rattle.layout.specs.Layout.{Leaf, plain, string, Layout, Value, leaves, Meets, bound, Proper}
 use Rattle.layout.specs.Written.{bytesOf, bytes, rowWidth, sortNumber, textSort, sortAt, offsetAt, valueAt}
 use Rattle.layout.specs.Answers.{limit, wholeRows}
-use Rattle.length.specs.Length.{Length, counted, refused}
+use Rattle.table.specs.Answers.{Total, counted, uncounted}
 use Rattle.entry_writer.specs.Rows.{lentAt}
 
 -- A row gives a leaf: the sort is the leaf's, and so is the value, or of a text row its lent bytes
@@ -54,26 +54,26 @@ pub record Writable (L : Layout) (rows text : List ℕ) (v : Value L) : Type 0 w
   pub small : length (bytes L v) ≤ limit
 
 -- What is promised of a measuring, in terms of what the rows spell. 17 is not met: there is a destination of the limit's size
-pub record ExactLength (L : Layout) (rows text : List ℕ) (answer : Length) : Type 0 where
+pub record ExactLength (L : Layout) (rows text : List ℕ) (answer : Total) : Type 0 where
   -- a length is answered exactly if the rows spell a value that can be written; it is that of the bytes that the value derives
   pub accepts : (n : ℕ) → (answer ≡ counted n) ↔ (v : Value L) × Writable L rows text v × (n ≡ length (bytes L v))
   -- each refusal is answered exactly under its condition, at place 0
-  pub refuses : (n p : ℕ) → (answer ≡ refused n p) ↔ WriteRefusal L rows text limit n × (p ≡ 0)
+  pub refuses : (n p : ℕ) → (answer ≡ uncounted n p) ↔ WriteRefusal L rows text limit n × (p ≡ 0)
   -- a value that can be written is proper: a derivation
   pub proper : (v : Value L) → Writable L rows text v → Proper L v
 
 -- What is promised of a writing, in terms of what the rows spell: `answer` is its length or a refusal, and `after` the destination
 -- afterwards
-pub record ExactWriting (L : Layout) (rows text dest : List ℕ) (answer : Length) (after : List ℕ) : Type 0 where
+pub record ExactWriting (L : Layout) (rows text dest : List ℕ) (answer : Total) (after : List ℕ) : Type 0 where
   -- a length is answered exactly if the rows spell a value that can be written, and the destination has space; it is that of
   -- the bytes that the value derives
   pub accepts : (n : ℕ) → (answer ≡ counted n) ↔ (v : Value L) × Writable L rows text v × (n ≡ length (bytes L v)) × (n ≤ length dest)
   -- then the destination has those bytes, and behind them what was there
   pub stores : (v : Value L) → Writable L rows text v → length (bytes L v) ≤ length dest → after ≡ bytes L v ++ drop (length (bytes L v)) dest
   -- each refusal is answered exactly under its condition, at place 0
-  pub refuses : (n p : ℕ) → (answer ≡ refused n p) ↔ WriteRefusal L rows text (length dest) n × (p ≡ 0)
+  pub refuses : (n p : ℕ) → (answer ≡ uncounted n p) ↔ WriteRefusal L rows text (length dest) n × (p ≡ 0)
   -- then the destination is unchanged
-  pub keeps : (n p : ℕ) → answer ≡ refused n p → after ≡ dest
+  pub keeps : (n p : ℕ) → answer ≡ uncounted n p → after ≡ dest
   -- a value that can be written is proper: a derivation
   pub proper : (v : Value L) → Writable L rows text v → Proper L v
 

@@ -9,7 +9,7 @@ use Rattle.layout.specs.Written.{rowWidth}
 use Rattle.layout.specs.Reading.{leavesAt}
 use Rattle.layout.specs.Machine.{Machine, verdictOn, drive}
 use Rattle.layout.specs.Answers.{limit}
-use Rattle.length.specs.Length.{Length, counted, refused}
+use Rattle.table.specs.Answers.{Total, counted, uncounted}
 use Rattle.entry_writer.specs.Rows.{inRows}
 use Rattle.entry_writer.specs.State.{stoppedOnce, consumePlain, consumeText}
 use Rattle.entry_writer.specs.declared.EntryWriter.{EntryWriter}
@@ -29,9 +29,9 @@ abbrev pub consume : Layout → (rows text : List ℕ) → EntryWriter → Entry
 consume L rows text w = drive (writer rows text) L w
 
 -- 14, if a row was refused or some are left; 15; 16; or the length
-unfoldable pub closing : (rows : List ℕ) → EntryWriter → Length
+unfoldable pub closing : (rows : List ℕ) → EntryWriter → Total
 closing rows w =
     cond (eqb (w .refusal) 0 && eqb (rowWidth * w .row) (length rows))
-    (cond (w .bad) (refused 15 0)
-    (cond (leb (w .pos) limit) (counted (w .pos)) (refused 16 0)))
-    (refused 14 0)
+    (cond (w .bad) (uncounted 15 0)
+    (cond (leb (w .pos) limit) (counted (w .pos)) (uncounted 16 0)))
+    (uncounted 14 0)

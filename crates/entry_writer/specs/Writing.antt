@@ -8,7 +8,7 @@ use Rattle.layout.specs.Layout.{Layout, Value}
 use Rattle.layout.specs.Written.{bytes, rowWidth}
 use Rattle.layout.specs.Reading.{Outcome, ok, refuse, _>>=_, need, walk}
 use Rattle.layout.specs.Answers.{limit, wholeRows}
-use Rattle.length.specs.Length.{Length, counted, refused}
+use Rattle.table.specs.Answers.{Total, counted, uncounted}
 use Rattle.entry_writer.specs.Rows.{inRows, goodRows}
 
 -- 14, whatever was refused
@@ -36,14 +36,14 @@ unfoldable pub write : Layout → (rows text : List ℕ) → (size : ℕ) → Ou
 write L rows text size = measured L rows text >>= λ b n. need (leb n size) 17 0 (ok b n)
 
 -- 17, of a length alone
-abbrev pub fitting : Length → (size : ℕ) → Length
-fitting (counted n) size = cond (leb n size) (counted n) (refused 17 0)
-fitting (refused n p) size = refused n p
+abbrev pub fitting : Total → (size : ℕ) → Total
+fitting (counted n) size = cond (leb n size) (counted n) (uncounted 17 0)
+fitting (uncounted n p) size = uncounted n p
 
 -- The length, or the refusal
-abbrev pub lengthIn : Outcome ℕ (List ℕ) → Length
+abbrev pub lengthIn : Outcome ℕ (List ℕ) → Total
 lengthIn (ok b n) = counted n
-lengthIn (refuse n p) = refused n p
+lengthIn (refuse n p) = uncounted n p
 
 -- The destination afterwards: the bytes, and behind them what was there; after a refusal it is unchanged
 abbrev pub written : Outcome ℕ (List ℕ) → List ℕ → List ℕ

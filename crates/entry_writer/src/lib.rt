@@ -1,8 +1,9 @@
 // The rows of a writing: a writer that takes a tag, a flag, a number, a count or a text from the next row and adds up the length;
 // and the storing of the rows' bytes, once nothing is refused.
-use leaf::LIMIT;
-use leaf::ROW_WIDTH;
+use layout::LIMIT;
+use layout::ROW_WIDTH;
 use length::Length;
+use table::Refusal;
 ghost use mathlib.Core.Bool.{false};
 ghost use mathlib.Core.Path.{_≡_};
 ghost use Prim.Native.Nat.{_+_, _^_, _<_, _≤_};
@@ -10,9 +11,9 @@ ghost use lib.Dec.{leb};
 ghost use lib.ListN.{length};
 ghost use Rattle.layout.specs.Layout.{Tag, Flag, Number, Count, one};
 ghost use Rattle.layout.specs.Layout as layouts;
-ghost use Rattle.layout.specs.Written.{four, sortAt, offsetAt, valueAt};
 ghost use Rattle.layout.specs.Answers.{wholeRows};
-ghost use Rattle.length.specs.Length.{lengthOf, refused};
+ghost use Rattle.table.specs.Answers.{uncounted};
+ghost use Rattle.length.specs.Length.{lengthOf};
 ghost use Rattle.paste.specs.Pasted.{pasted};
 ghost use Rattle.entry_writer.specs.Rows.{isRow};
 ghost use Rattle.entry_writer.specs.Writing.{fitting};
@@ -21,17 +22,12 @@ ghost use Rattle.entry_writer.specs.Run.{consume, closing};
 ghost use Rattle.entry_writer.specs.Refusals.{Stores};
 ghost use Rattle.entry_writer.specs.Private.{numberFrom, takeNumber, rowLength, rowBytes};
 
-// The places of a text's offset and of the value in a row.
-const ROW_OFFSET: usize = 1;
-
-const ROW_VALUE: usize = 2;
-
 // Where a writing stands: `row`, the next row; `pos`, the bytes so far, which stop above the limit; `value`, the value of the row
 // before; `refusal`, 0 or 14; `bad`, whether a text row was bad. A refused writer takes no more rows.
 pub struct EntryWriter {
     pub row: usize,
     pub pos: usize,
-    pub value: usize,
+    pub value: u32,
     pub refusal: u32,
     pub bad: bool,
 }
@@ -74,7 +70,7 @@ impl EntryWriter {
     }
 
     // The writer behind a row with a value, which takes so many bytes.
-    fn past(self, value: usize, size: usize) -> EntryWriter
+    fn past(self, value: u32, size: usize) -> EntryWriter
         requires { ⌜ self .row + 1 < 2 ^ 64 ⌝ }
         ensures { λ r. ⌜ r ≡ past value size self ⌝ }
     {
@@ -108,43 +104,42 @@ impl EntryWriter {
         if self.refusal != 0 {
             return self;
         }
-        let row = self.row;
-        if !is_row(rows, row, sort) {
+        if !is_row(rows, self.row, sort) {
             return self.stop();
         }
-        let value = value_at(rows, row) as usize;
-        if bound <= value {
+        let row = table::row_at(rows, self.row);
+        if bound <= row.value as usize {
             return self.stop();
         }
-        self.past(value, size)
+        self.past(row.value, size)
     }
 
     // This and the next four take the next row, from the rows and the text bytes that are lent. Here: a tag.
     pub fn u8(self, rows: &[u32], text: &[u8]) -> EntryWriter
         ensures { λ r. ⌜ r ≡ consume (one Tag) (now (rows .entry)) (now (text .entry)) self ⌝ }
     {
-        self.number(rows, leaf::SORT_TAG, 256, 1)
+        self.number(rows, layout::SORT_TAG, 256, 1)
     }
 
     // A flag.
     pub fn bool(self, rows: &[u32], text: &[u8]) -> EntryWriter
         ensures { λ r. ⌜ r ≡ consume (one Flag) (now (rows .entry)) (now (text .entry)) self ⌝ }
     {
-        self.number(rows, leaf::SORT_FLAG, 2, 1)
+        self.number(rows, layout::SORT_FLAG, 2, 1)
     }
 
     // A number.
     pub fn u32(self, rows: &[u32], text: &[u8]) -> EntryWriter
         ensures { λ r. ⌜ r ≡ consume (one Number) (now (rows .entry)) (now (text .entry)) self ⌝ }
     {
-        self.number(rows, leaf::SORT_NUMBER, 4294967296, 4)
+        self.number(rows, layout::SORT_NUMBER, 4294967296, 4)
     }
 
     // The count of a list.
     pub fn count(self, rows: &[u32], text: &[u8]) -> EntryWriter
         ensures { λ r. ⌜ r ≡ consume (one Count) (now (rows .entry)) (now (text .entry)) self ⌝ }
     {
-        self.number(rows, leaf::SORT_COUNT, 4294967296, 4)
+        self.number(rows, layout::SORT_COUNT, 4294967296, 4)
     }
 
     // A text: its length, then its bytes.
@@ -154,12 +149,12 @@ impl EntryWriter {
         if self.refusal != 0 {
             return self;
         }
-        let row = self.row;
-        if !is_row(rows, row, leaf::SORT_TEXT) {
+        if !is_row(rows, self.row, layout::SORT_TEXT) {
             return self.stop();
         }
-        let start = offset_at(rows, row) as usize;
-        let size = value_at(rows, row) as usize;
+        let row = table::row_at(rows, self.row);
+        let start = row.offset as usize;
+        let size = row.value as usize;
         if !stays(text, start, size) {
             return self.spoiled();
         }
@@ -167,7 +162,7 @@ impl EntryWriter {
         if !text::is_utf8(&text[start..end]) {
             return self.spoiled();
         }
-        self.past(size, 4 + size)
+        self.past(row.value, 4 + size)
     }
 
     // The answer at the end: 14 unless all rows were taken; 15; 16; or the length.
@@ -201,10 +196,7 @@ pub fn fitting(length: Length, size: usize) -> Length
         return length;
     };
     if size < count {
-        return Length::Refused {
-            number: 17,
-            place: 0,
-        };
+        return refuse(17);
     }
     length
 }
@@ -215,66 +207,54 @@ pub fn store(rows: &[u32], text: &[u8], dest: &mut [u8])
     ensures { λ r. ⌜ Stores (now (rows .entry)) (now (text .entry)) (now (dest .entry)) (now (dest .exit)) ⌝ }
 {
     let mut at = 0;
-    let mut row = 0;
-    while row < rows.len() / ROW_WIDTH {
-        let size = row_len(rows, row);
+    let mut i = 0;
+    while i < rows.len() / ROW_WIDTH {
+        let size = row_len(rows, i);
         if dest.len() - at < size {
             return;
         }
-        store_row(rows, text, dest, row, at);
+        store_row(rows, text, dest, i, at);
         at += size;
-        row += 1;
+        i += 1;
     }
 }
 
 // The bytes that a row takes.
-fn row_len(rows: &[u32], row: usize) -> usize
-    requires { ⌜ row < wholeRows (now rows) ⌝ }
-    ensures { λ r. ⌜ r ≡ rowLength (now (rows .entry)) row ⌝ }
+fn row_len(rows: &[u32], i: usize) -> usize
+    requires { ⌜ i < wholeRows (now rows) ⌝ }
+    ensures { λ r. ⌜ r ≡ rowLength (now (rows .entry)) i ⌝ }
 {
-    let sort = sort_at(rows, row);
-    if sort <= leaf::SORT_FLAG {
+    let row = table::row_at(rows, i);
+    if row.sort <= layout::SORT_FLAG {
         return 1;
     }
-    if sort <= leaf::SORT_COUNT {
+    if row.sort <= layout::SORT_COUNT {
         return 4;
     }
-    4 + value_at(rows, row) as usize
+    4 + row.value as usize
 }
 
 // Stores the bytes of a row, which fit.
-fn store_row(rows: &[u32], text: &[u8], dest: &mut [u8], row: usize, at: usize)
-    requires { ⌜ (row < wholeRows (now rows)) × (at + rowLength (now rows) row ≤ length (now dest)) ⌝ }
-    ensures { λ r. ⌜ now (dest .exit) ≡ pasted (now (dest .entry)) at (rowBytes (now (rows .entry)) (now (text .entry)) row) ⌝ }
+fn store_row(rows: &[u32], text: &[u8], dest: &mut [u8], i: usize, at: usize)
+    requires { ⌜ (i < wholeRows (now rows)) × (at + rowLength (now rows) i ≤ length (now dest)) ⌝ }
+    ensures { λ r. ⌜ now (dest .exit) ≡ pasted (now (dest .entry)) at (rowBytes (now (rows .entry)) (now (text .entry)) i) ⌝ }
 {
-    let sort = sort_at(rows, row);
-    let value = value_at(rows, row);
-    if sort <= leaf::SORT_FLAG {
-        dest[at] = (value % 256) as u8;
+    let row = table::row_at(rows, i);
+    if row.sort <= layout::SORT_FLAG {
+        dest[at] = (row.value % 256) as u8;
         return;
     }
-    store_four(dest, at, value);
-    if sort <= leaf::SORT_COUNT {
+    bytes::put_number(dest, at, row.value);
+    if row.sort <= layout::SORT_COUNT {
         return;
     }
-    let start = offset_at(rows, row) as usize;
-    let size = value as usize;
+    let start = row.offset as usize;
+    let size = row.value as usize;
     if !stays(text, start, size) {
         return;
     }
     let end = start + size;
     paste::paste(dest, at + 4, &text[start..end]);
-}
-
-// Stores the four bytes of a number, little-endian, which fit.
-fn store_four(dest: &mut [u8], at: usize, n: u32)
-    requires { ⌜ at + 4 ≤ length (now dest) ⌝ }
-    ensures { λ r. ⌜ now (dest .exit) ≡ pasted (now (dest .entry)) at (four n) ⌝ }
-{
-    dest[at] = (n % 256) as u8;
-    dest[at + 1] = (n / 256 % 256) as u8;
-    dest[at + 2] = (n / 65536 % 256) as u8;
-    dest[at + 3] = (n / 16777216 % 256) as u8;
 }
 
 // A length with more bytes; above the limit it stops.
@@ -290,41 +270,15 @@ fn grown(pos: usize, size: usize) -> usize
     pos + size
 }
 
-// There is a row, and it is of a sort.
-fn is_row(rows: &[u32], row: usize, sort: u32) -> bool
-    ensures { λ r. ⌜ r ≡ isRow (now (rows .entry)) row sort ⌝ }
+// There is a row at an index, and it is of a sort.
+fn is_row(rows: &[u32], i: usize, sort: u32) -> bool
+    ensures { λ r. ⌜ r ≡ isRow (now (rows .entry)) i sort ⌝ }
 {
-    if rows.len() / ROW_WIDTH <= row {
+    if rows.len() / ROW_WIDTH <= i {
         return false;
     }
-    sort_at(rows, row) == sort
-}
-
-// The sort of a row.
-fn sort_at(rows: &[u32], row: usize) -> u32
-    requires { ⌜ row < wholeRows (now rows) ⌝ }
-    ensures { λ r. ⌜ r ≡ sortAt (now (rows .entry)) row ⌝ }
-{
-    let i = ROW_WIDTH * row;
-    rows[i]
-}
-
-// The offset in a row.
-fn offset_at(rows: &[u32], row: usize) -> u32
-    requires { ⌜ row < wholeRows (now rows) ⌝ }
-    ensures { λ r. ⌜ r ≡ offsetAt (now (rows .entry)) row ⌝ }
-{
-    let i = ROW_WIDTH * row + ROW_OFFSET;
-    rows[i]
-}
-
-// The value in a row.
-fn value_at(rows: &[u32], row: usize) -> u32
-    requires { ⌜ row < wholeRows (now rows) ⌝ }
-    ensures { λ r. ⌜ r ≡ valueAt (now (rows .entry)) row ⌝ }
-{
-    let i = ROW_WIDTH * row + ROW_VALUE;
-    rows[i]
+    let row = table::row_at(rows, i);
+    row.sort == sort
 }
 
 // The text's place is within the lent bytes.
@@ -339,7 +293,7 @@ fn stays(text: &[u8], start: usize, size: usize) -> bool
 
 // A refusal, at no place.
 fn refuse(number: u32) -> Length
-    ensures { λ r. ⌜ lengthOf r ≡ refused number 0 ⌝ }
+    ensures { λ r. ⌜ lengthOf r ≡ uncounted number 0 ⌝ }
 {
-    Length::Refused { number, place: 0 }
+    Length::Refused(Refusal { number, place: 0 })
 }

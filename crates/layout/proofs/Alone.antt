@@ -13,7 +13,7 @@ use Rattle.layout.specs.Written.{bytes}
 use Rattle.layout.specs.Reading.{Outcome, ok, refuse, read}
 use Rattle.layout.specs.Answers.{limit, Answer, accepted, refused, Accepts, Result, Given, wholeRows, acceptance, refusal, Exact}
 use Rattle.layout.specs.Alone.{given, Derives, RefusalAlone, too-long, bad-payload}
-use Rattle.layout.specs.ReadAlone.{tell, readAlone, readingAlone}
+use Rattle.layout.specs.ReadAlone.{throughTable, readAlone, readingAlone}
 use Rattle.layout.specs.Theorems.{Bytes, Alone-exact, Refusal-alone, Alone-only, Told, Alone-told, Alone-unique}
 use Rattle.layout.proofs.Walk.{All, all-ok, all-bind, all-need, all-when, Fails, fails-need, fails-map, fails-refuse}
 use Rattle.layout.proofs.InBytes.{read-complete, read-sound, value-unique}
@@ -47,7 +47,7 @@ only-thirteen false g table n p e = sym (ap (λ (a : Answer). a .number) e)
 
 module _ {D : Type 0} (Good : D → Type 0) (gives : D → Given) (Refusal : (number place : ℕ) → Type 0) where
   -- Such a reading, told through a table, is exact
-  pub exact : (m : Outcome ℕ Given) → Finds Good gives Refusal m → (table : List ℕ) → Exact Good gives Refusal table (tell m table)
+  pub exact : (m : Outcome ℕ Given) → Finds Good gives Refusal m → (table : List ℕ) → Exact Good gives Refusal table (throughTable m table)
   exact m f table =
       record {
         accepts = (only m (f .sound), λ a. rw (whole (a .0) (a .1) (a .2)));
@@ -57,20 +57,20 @@ module _ {D : Type 0} (Good : D → Type 0) (gives : D → Given) (Refusal : (nu
         others = other m refl;
       }
     where
-      whole : (d : D) → Good d → gives d .leafCount ≤ wholeRows table → tell m table ≡ acceptance (gives d) table
+      whole : (d : D) → Good d → gives d .leafCount ≤ wholeRows table → throughTable m table ≡ acceptance (gives d) table
       whole d g h = rw (f .complete d g .1, le-leb (gives d .leafCount) (wholeRows table) h)
 
-      full : (d : D) → Good d → wholeRows table < gives d .leafCount → tell m table ≡ refusal 13 0 table
+      full : (d : D) → Good d → wholeRows table < gives d .leafCount → throughTable m table ≡ refusal 13 0 table
       full d g h = rw (f .complete d g .1, lt-leb (gives d .leafCount) (wholeRows table) h)
 
-      only : (n : Outcome ℕ Given) → All (λ g end. (d : D) × Good d × (g ≡ gives d)) n → Accepts (tell n table .answer) → (d : D) × Good d × (gives d .leafCount ≤ wholeRows table)
+      only : (n : Outcome ℕ Given) → All (λ g end. (d : D) × Good d × (g ≡ gives d)) n → Accepts (throughTable n table .answer) → (d : D) × Good d × (gives d .leafCount ≤ wholeRows table)
       only (ok g end) s a =
           let t = all-ok s refl in
           let h : g .leafCount ≤ wholeRows table = leb-true _ _ (enough _ (acceptance g table) table a) in
           (t .0, t .1, omega (arith, ap (λ (x : Given). x .leafCount) (t .2)))
       only (refuse n p) s a = let z : _≡_ {A = ℕ} 0 1 = cc in absurd (omega arith)
 
-      few : (n : Outcome ℕ Given) → All (λ g end. (d : D) × Good d × (g ≡ gives d)) n → m ≡ n → tell m table ≡ refusal 13 0 table → (d : D) × Good d × (wholeRows table < gives d .leafCount)
+      few : (n : Outcome ℕ Given) → All (λ g end. (d : D) × Good d × (g ≡ gives d)) n → m ≡ n → throughTable m table ≡ refusal 13 0 table → (d : D) × Good d × (wholeRows table < gives d .leafCount)
       few (ok g end) s e a =
           let t = all-ok s refl in
           let h : wholeRows table < g .leafCount = leb-false _ _ (thirteen _ g table (rw e at a)) in
@@ -80,7 +80,7 @@ module _ {D : Type 0} (Good : D → Type 0) (gives : D → Given) (Refusal : (nu
           let l = f .numbered n p (f .refuses n p .0 e) .1 in
           absurd (omega arith)
 
-      stops : (o : Outcome ℕ Given) (n p : ℕ) → n ≤ 12 → tell o table ≡ refusal n p table → o ≡ refuse n p
+      stops : (o : Outcome ℕ Given) (n p : ℕ) → n ≤ 12 → throughTable o table ≡ refusal n p table → o ≡ refuse n p
       stops (ok g end) n p l e = let q : n ≡ 13 = only-thirteen (leb (g .leafCount) (wholeRows table)) g table n p (ap (λ (r : Result). r .answer) e) in absurd (omega arith)
       stops (refuse k q) n p l e =
           let a : k ≡ n = ap (λ (r : Result). r .answer .number) e in
@@ -95,26 +95,26 @@ module _ {D : Type 0} (Good : D → Type 0) (gives : D → Given) (Refusal : (nu
           (n, p, h, a, b)
 
   -- And what is exact is that
-  pub exact-only : (m : Outcome ℕ Given) → Finds Good gives Refusal m → (table : List ℕ) (r : Result) → Exact Good gives Refusal table r → r ≡ tell m table
+  pub exact-only : (m : Outcome ℕ Given) → Finds Good gives Refusal m → (table : List ℕ) (r : Result) → Exact Good gives Refusal table r → r ≡ throughTable m table
   exact-only m f table r t = go m refl
     where
-      by-rows : (d : D) → Good d → (b : Bool) → leb (gives d .leafCount) (wholeRows table) ≡ b → r ≡ tell m table
+      by-rows : (d : D) → Good d → (b : Bool) → leb (gives d .leafCount) (wholeRows table) ≡ b → r ≡ throughTable m table
       by-rows d g true q = t .fits d g (leb-true _ _ q) ∙ sym (exact m f table .fits d g (leb-true _ _ q))
       by-rows d g false q = t .too-few .1 (d, g, leb-false _ _ q) ∙ sym (exact m f table .too-few .1 (d, g, leb-false _ _ q))
 
-      go : (n : Outcome ℕ Given) → m ≡ n → r ≡ tell m table
+      go : (n : Outcome ℕ Given) → m ≡ n → r ≡ throughTable m table
       go (ok g end) e = let (d, h, q) = all-ok (f .sound) e in by-rows d h _ refl
       go (refuse n p) e = let h = f .refuses n p .0 e in t .refuses n p (f .numbered n p h .1) .1 h ∙ rw e
 
   -- Its answer accepts exactly if the number is 0
-  pub told : (m : Outcome ℕ Given) → Finds Good gives Refusal m → (table : List ℕ) → Told (tell m table .answer)
+  pub told : (m : Outcome ℕ Given) → Finds Good gives Refusal m → (table : List ℕ) → Told (throughTable m table .answer)
   told m f table = go m refl
     where
       either : (b : Bool) (g : Given) → Told (cond b (acceptance g table) (refusal 13 0 table) .answer)
       either true g = refl
       either false g = refl
 
-      go : (n : Outcome ℕ Given) → m ≡ n → Told (tell n table .answer)
+      go : (n : Outcome ℕ Given) → m ≡ n → Told (throughTable n table .answer)
       go (ok g end) e = either (leb (g .leafCount) (wholeRows table)) g
       go (refuse n p) e = ne-eqb n 0 λ z. omega (arith, f .numbered n p (f .refuses n p .0 e) .0)
 

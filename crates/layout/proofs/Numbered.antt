@@ -13,7 +13,7 @@ use Rattle.layout.specs.BadReads.{BadPayload, bad-read, bytes-remain}
 use Rattle.layout.specs.Reading.{Outcome, ok, refuse}
 use Rattle.layout.specs.Answers.{Answer, refused, Given, wholeRows}
 use Rattle.layout.specs.Alone.{RefusalAlone, too-long, bad-payload, payloadNumbers, metadataNumbers}
-use Rattle.layout.specs.ReadAlone.{tell, readAlone, readingAlone}
+use Rattle.layout.specs.ReadAlone.{throughTable, readAlone, readingAlone}
 use Rattle.layout.specs.Theorems.{Bytes, Mapping-bad-read, Metadata-bad-read, Payload-numbered, Metadata-numbered, Mapping-numbered}
 use Rattle.layout.proofs.Judges.{Judged, Reads, read-numbered, judged}
 use Rattle.layout.proofs.Alone.{only-thirteen, refusal-alone}
@@ -38,7 +38,7 @@ module _ (N : ℕ → Type 0) (k : Alone N) (L : Layout) (j : Judged N L) where
   unfolding readingAlone
   of-answer entities s u table n p = go (readAlone L entities s) refl
     where
-      go : (m : Outcome ℕ Given) → readAlone L entities s ≡ m → tell m table .answer ≡ refused n p → N n
+      go : (m : Outcome ℕ Given) → readAlone L entities s ≡ m → throughTable m table .answer ≡ refused n p → N n
       go (ok g end) e q = rw (only-thirteen (leb (g .leafCount) (wholeRows table)) g table n p q) (k .thirteen)
       go (refuse a b) e q = let h : a ≡ n = ap (λ (x : Answer). x .number) q in rw (← h) (of-refusal (refusal-alone L entities s u a b .0 e))
 

@@ -10,9 +10,9 @@ use Rattle.layout.specs.Answers.{limit, Result, Given, wholeRows, accept
 use Rattle.layout.specs.Alone.{given}
 
 -- What is read, through a lent table: a refusal of 1 to 12; 13, if the table has too few whole rows; or an acceptance
-abbrev pub tell : Outcome ℕ Given → List ℕ → Result
-tell (refuse n p) table = refusal n p table
-tell (ok g end) table = cond (leb (g .leafCount) (wholeRows table)) (acceptance g table) (refusal 13 0 table)
+abbrev pub throughTable : Outcome ℕ Given → List ℕ → Result
+throughTable (refuse n p) table = refusal n p table
+throughTable (ok g end) table = cond (leb (g .leafCount) (wholeRows table)) (acceptance g table) (refusal 13 0 table)
 
 -- 1; then the layout, by 5 to 11; then 12 at the first byte that remains
 unfoldable pub readAlone : Layout → (entities : ℕ) → List ℕ → Outcome ℕ Given
@@ -23,4 +23,4 @@ readAlone L entities s =
 
 -- The reading of one value of a layout alone
 unfoldable pub readingAlone : Layout → (entities : ℕ) → List ℕ → List ℕ → Result
-readingAlone L entities s table = tell (readAlone L entities s) table
+readingAlone L entities s table = throughTable (readAlone L entities s) table

@@ -11,9 +11,9 @@ use Rattle.leaf.specs.declared.Cursor.{Cursor}
 use Rattle.leaf.specs.State.{ReadState, readState}
 use Rattle.leaf.specs.Run.{run}
 
--- A reading from a cursor that was made anew
-pub anew-in : (L : Layout) (s table : List ℕ) (c c₁ : Cursor) (r : ReadState) → c₁ ≡ c → r ≡ run L s (readState c₁ table) → r ≡ run L s (readState c table)
-anew-in L s table c c₁ r e q = q ∙ ap (λ (x : Cursor). run L s (readState x table)) e
+-- A reading from a copy of a cursor
+pub copy-in : (L : Layout) (s table : List ℕ) (c c₁ : Cursor) (r : ReadState) → c₁ ≡ c → r ≡ run L s (readState c₁ table) → r ≡ run L s (readState c table)
+copy-in L s table c c₁ r e q = q ∙ ap (λ (x : Cursor). run L s (readState x table)) e
 
 -- A number from a on and below a + 2 is one of two: what holds in each case holds
 pub of-two : {G : Type 0} (a n : ℕ) → a ≤ n → n < a + 2 → (n ≡ a → G) → (n ≡ a + 1 → G) → G

@@ -12,14 +12,14 @@ use Rattle.layout.specs.Written.{sortNumber}
 use Rattle.layout.specs.Reading.{Outcome, ok, refuse, _>>=_, utf8, numberAt, textAt}
 use Rattle.layout.specs.Answers.{limit}
 use Rattle.leaf.specs.declared.Cursor.{Cursor}
-use Rattle.leaf.specs.State.{ReadState, readState, lengthAt, stopped, stop, put, arrive, guarded}
+use Rattle.leaf.specs.State.{ReadState, readState, stopped, stop, put, arrive, guarded}
 use Rattle.leaf.specs.Private.{putNumber}
 use Rattle.text.specs.Walk as automaton
 
--- A number that lands with its sort's number arrives as a leaf of the sort
-pub land-plain : (srt : Sort) (o : Outcome ℕ ℕ) (st : ReadState) → putNumber (sortNumber srt) o st ≡ arrive (o >>= λ n next. ok (plain srt n) next) st
-land-plain srt (ok n next) st = refl
-land-plain srt (refuse n p) st = refl
+-- A number that is put with its sort's number arrives as a leaf of the sort
+pub number-arrives : (srt : Sort) (o : Outcome ℕ ℕ) (st : ReadState) → putNumber (sortNumber srt) o st ≡ arrive (o >>= λ n next. ok (plain srt n) next) st
+number-arrives srt (ok n next) st = refl
+number-arrives srt (refuse n p) st = refl
 
 -- The tests that come first
 module _ (s table : List ℕ) (c : Cursor) (out : ReadState) where
@@ -54,13 +54,3 @@ module _ (s : List ℕ) (st : ReadState) (n : ℕ) (e : n ≡ numberAt s (st .cu
     text-right u =
         let l : length (take x (drop (at + 4) s)) ≡ x = length-take-le x (drop (at + 4) s) (omega (arith, length-drop (at + 4) s)) in
         rw (le-leb (at + 4) (length s) h, ← e, le-leb (at + 4 + n) (length s) k, ← q, u, l)
-
--- A length
-module _ (s : List ℕ) (at : ℕ) where
-  pub length-none : length s < at + 4 → lengthAt s at ≡ 0
-  unfolding lengthAt
-  length-none h = rw (lt-leb (at + 4) (length s) h)
-
-  pub length-there : at + 4 ≤ length s → lengthAt s at ≡ numberAt s at
-  unfolding lengthAt
-  length-there h = rw (le-leb (at + 4) (length s) h)

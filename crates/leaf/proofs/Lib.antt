@@ -2,5 +2,5 @@ pub mod Still
 pub mod Leaves
 pub mod Table
 pub mod Reading
-pub mod Finish
+pub mod Answered
 pub mod Handing

@@ -43,18 +43,18 @@ gait s = record {
   at = λ st. st .cursor .at;
   Going = λ st. st .cursor .refusal ≡ 0;
   push = push;
-  Stops = λ st r n p. (r .cursor .refusal ≡ n) × (n ≡ 0 → ⊥) × (r .cursor .place ≡ p) × (length (r .table) ≡ length (st .table));
+  Stops = λ st r n p. (r .cursor .refusal ≡ n) × (n ≡ 0 → ⊥) × (r .cursor .at ≡ p) × (length (r .table) ≡ length (st .table));
 }
 
 halt-stops : (f : Fault) (begin st : ReadState) → st .cursor .refusal ≡ 0 → gait [] .Stops st (halt (refusalOf f) (begin .cursor .at) st) (refusalOf f) (begin .cursor .at)
 halt-stops f begin st z =
     let e : halt (refusalOf f) (begin .cursor .at) st ≡ stop (refusalOf f) (begin .cursor .at) st = rw (eq-eqb (st .cursor .refusal) 0 z) in
-    (ap (λ (x : ReadState). x .cursor .refusal) e, refusal-not-0 f, ap (λ (x : ReadState). x .cursor .place) e, ap (λ (x : ReadState). length (x .table)) e)
+    (ap (λ (x : ReadState). x .cursor .refusal) e, refusal-not-0 f, ap (λ (x : ReadState). x .cursor .at) e, ap (λ (x : ReadState). length (x .table)) e)
 
 pub moved-of : {st r : ReadState} {ls : List Leaf} {next : ℕ} → Follows st r (ok ls next) → (r ≡ arriveAll ls st) × (r .cursor .at ≡ next)
 moved-of (moved h) = h
 
-pub stops-of : {st r : ReadState} {n p : ℕ} → Follows st r (refuse n p) → (r .cursor .refusal ≡ n) × (n ≡ 0 → ⊥) × (r .cursor .place ≡ p) × (length (r .table) ≡ length (st .table))
+pub stops-of : {st r : ReadState} {n p : ℕ} → Follows st r (refuse n p) → (r .cursor .refusal ≡ n) × (n ≡ 0 → ⊥) × (r .cursor .at ≡ p) × (length (r .table) ≡ length (st .table))
 stops-of (stops h) = h
 
 -- What the read of a leaf answers: a step of the leaf's width, or a refusal

@@ -1,38 +1,19 @@
--- The table: what is stored in it, and what is cleared.
-use Prim.Native.Nat.{ℕ, suc, _+_, _-_, _*_, _/_, _≤_, _<_}
-use native.Mathlib.Nat.{add-zero, sub-zero}
+-- What is stored in the table.
+use Prim.Native.Nat.{ℕ, suc, _+_, _*_, _/_, _≤_, _<_, min}
+use native.Mathlib.Nat.{add-zero}
 use native.Mathlib.Omega.{arith}
 use mathlib.Core.Bool.{Bool, true, false, cond}
 use mathlib.Core.List.{List, [], _∷_, _++_, append-assoc, append-nil}
 use mathlib.Core.Path.{_≡_, refl, ap, _∙_}
-use lib.ListN.{length, take, set, length-set, replicate}
-use lib.Seq.{take-suc-set, take-all}
-use borrow.Author.Tests.{lt-ltb, ltb-true}
+use lib.ListN.{length, take, set, length-set}
+use lib.Seq.{take-suc-set}
+use borrow.Author.Tests.{lt-ltb}
 use Rattle.layout.specs.Layout.{Leaf, plain, string}
 use Rattle.layout.specs.Written.{leafBytes, rowWidth, rowAt, rowsFrom}
 use Rattle.layout.specs.Reading.{Outcome, ok, refuse}
 use Rattle.layout.specs.Answers.{wholeRows}
 use Rattle.leaf.specs.State.{ReadState, store, room, arrive}
-use Rattle.leaf.specs.Private.{cleared}
 use Rattle.leaf.specs.Theorems.{arriveAll}
-
--- Clearing index after index
-pub cleared-step : (t : List ℕ) (i : ℕ) → i < length t → cleared (set t i 0) (i + 1) ≡ cleared t i
-unfolding cleared
-cleared-step t i h =
-    let a : i + 1 ≡ suc i = omega arith in
-    let b : length t - i ≡ suc (length t - (i + 1)) = omega arith in
-    rw (length-set t i 0, b, a, take-suc-set t i 0 h) (append-assoc (take i t) (0 ∷ []) _)
-
-pub cleared-end : (t : List ℕ) (i : ℕ) → length t ≤ i → cleared t i ≡ t
-unfolding cleared
-cleared-end t i h =
-    let a : length t - i ≡ 0 = omega arith in
-    rw (a, take-all i t h) (append-nil t)
-
-pub cleared-all : (t : List ℕ) → cleared t 0 ≡ replicate (length t) 0
-unfolding cleared
-cleared-all t = rw sub-zero
 
 -- Storing
 store-length : (xs t : List ℕ) (i : ℕ) → length (store t i xs) ≡ length t
@@ -74,52 +55,26 @@ arriveAll-length (x ∷ ls) st = arriveAll-length ls (push x st) ∙ push-length
 -- The rows of ls are stored behind those of st
 pub record Filled (at : ℕ) (ls : List Leaf) (st r : ReadState) : Type 0 where
   pub rows : r .cursor .rows ≡ st .cursor .rows + length ls
-  pub short : r .cursor .short ≡ st .cursor .short
   pub front : take (rowWidth * r .cursor .rows) (r .table) ≡ take (rowWidth * st .cursor .rows) (st .table) ++ rowsFrom at ls
 
 push-fills : (x : Leaf) (st : ReadState) → st .cursor .rows < wholeRows (st .table)
-    → (push x st .cursor .rows ≡ st .cursor .rows + 1) × (push x st .cursor .short ≡ st .cursor .short)
+    → (push x st .cursor .rows ≡ st .cursor .rows + 1)
     × (take (rowWidth * push x st .cursor .rows) (push x st .table) ≡ take (rowWidth * st .cursor .rows) (st .table) ++ rowAt (st .cursor .at) x)
 push-fills x st h =
     let row = rowAt (st .cursor .at) x in
-    let e = lt-ltb (st .cursor .rows) (wholeRows (st .table)) h in
+    let n : push x st .cursor .rows ≡ st .cursor .rows + 1 = omega arith in
     let l : length row ≡ rowWidth = row-length (st .cursor .at) x in
     let q : rowWidth * (st .cursor .rows + 1) ≡ rowWidth * st .cursor .rows + length row = omega arith in
-    (rw e, rw e, rw (e, q) (store-take row (st .table) (rowWidth * st .cursor .rows) (omega arith)))
+    (n, rw (n, lt-ltb (st .cursor .rows) (wholeRows (st .table)) h, q) (store-take row (st .table) (rowWidth * st .cursor .rows) (omega arith)))
 
 pub fills : (ls : List Leaf) (st : ReadState) → st .cursor .rows + length ls ≤ wholeRows (st .table) → Filled (st .cursor .at) ls st (arriveAll ls st)
-fills [] st h = record { rows = omega arith; short = refl; front = rw append-nil }
+fills [] st h = record { rows = omega arith; front = rw append-nil }
 fills (x ∷ ls) st h =
-    let (a, b, c) = push-fills x st (omega arith) in
+    let (a, b) = push-fills x st (omega arith) in
     let i = fills ls (push x st) (omega (arith, a, ap (λ (n : ℕ). n / rowWidth) (push-length x st))) in
-    record {
-      rows = omega (arith, i .rows, a);
-      short = i .short ∙ b;
-      front = i .front ∙ rw (c, append-assoc);
-    }
+    record { rows = omega (arith, i .rows, a); front = i .front ∙ rw (b, append-assoc) }
 
--- If they do not fit, the cursor is short
-push-short : (x : Leaf) (st : ReadState) → st .cursor .short ≡ 1 → push x st .cursor .short ≡ 1
-push-short x st h = go (room st)
-  where
-    go : (b : Bool) → cond b (st .cursor .short) 1 ≡ 1
-    go true = h
-    go false = refl
-
-pub stays-short : (ls : List Leaf) (st : ReadState) → st .cursor .short ≡ 1 → arriveAll ls st .cursor .short ≡ 1
-stays-short [] st h = h
-stays-short (x ∷ ls) st h = stays-short ls (push x st) (push-short x st h)
-
-pub shorts : (ls : List Leaf) (st : ReadState) → wholeRows (st .table) < st .cursor .rows + length ls → st .cursor .rows ≤ wholeRows (st .table) → arriveAll ls st .cursor .short ≡ 1
-shorts [] st h k = absurd (omega arith)
-shorts (x ∷ ls) st h k = go (room st) refl (λ a b. shorts ls (push x st) a b)
-  where
-    go : (b : Bool) → room st ≡ b
-        → (wholeRows (push x st .table) < push x st .cursor .rows + length ls → push x st .cursor .rows ≤ wholeRows (push x st .table) → arriveAll ls (push x st) .cursor .short ≡ 1)
-        → arriveAll ls (push x st) .cursor .short ≡ 1
-    go true e i =
-        let m : st .cursor .rows < wholeRows (st .table) = ltb-true _ _ e in
-        let (a, b, c) = push-fills x st m in
-        let l = ap (λ (n : ℕ). n / rowWidth) (push-length x st) in
-        i (omega (arith, a, l)) (omega (arith, a, l))
-    go false e i = stays-short ls (push x st) (rw e)
+-- Fitting or not, rows are counted up to one more than the table has
+pub counts : (ls : List Leaf) (st : ReadState) → min (st .cursor .rows + length ls) (wholeRows (st .table) + 1) ≤ arriveAll ls st .cursor .rows
+counts [] st = omega arith
+counts (x ∷ ls) st = omega (arith, counts ls (push x st), ap (λ (n : ℕ). n / rowWidth) (push-length x st))

@@ -1,5 +1,5 @@
 pub mod State
 pub mod Run
-pub mod Finish
+pub mod Answered
 pub mod Theorems
 pub mod Private

@@ -1,7 +1,6 @@
 -- What only the private functions of the crate promise one another. No public contract cites anything here.
-use Prim.Native.Nat.{ℕ, _-_}
-use mathlib.Core.List.{List, [], _∷_, _++_}
-use lib.ListN.{length, take, replicate}
+use Prim.Native.Nat.{ℕ}
+use mathlib.Core.List.{[], _∷_}
 use Rattle.layout.specs.Reading.{Outcome, ok, refuse}
 use Rattle.leaf.specs.State.{ReadState, stop, put}
 
@@ -9,7 +8,3 @@ use Rattle.leaf.specs.State.{ReadState, stop, put}
 abbrev pub putNumber : (sort : ℕ) → Outcome ℕ ℕ → ReadState → ReadState
 putNumber sort (ok n next) st = put (sort ∷ st .cursor .at ∷ n ∷ []) n next st
 putNumber sort (refuse n p) st = stop n p st
-
--- A table with 0 from an index on
-unfoldable pub cleared : List ℕ → (from : ℕ) → List ℕ
-cleared table from = take from table ++ replicate (length table - from) 0

@@ -1,12 +1,12 @@
 -- Where a reading stands: a cursor, and the table that it fills; and what the read of one leaf makes of the two.
-use Prim.Native.Nat.{ℕ, _+_, _*_}
+use Prim.Native.Nat.{ℕ, _+_, _*_, min}
 use mathlib.Core.Bool.{Bool, cond}
 use mathlib.Core.List.{List, [], _∷_}
 use lib.Dec.{eqb, ltb, leb}
 use lib.ListN.{length, set}
 use Rattle.layout.specs.Layout.{Sort, Leaf, plain, string, leafValue}
 use Rattle.layout.specs.Written.{rowWidth, rowAt}
-use Rattle.layout.specs.Reading.{Outcome, ok, refuse, _>>=_, enough, numberAt, plainAt, textAt}
+use Rattle.layout.specs.Reading.{Outcome, ok, refuse, _>>=_, plainAt, textAt}
 use Rattle.layout.specs.Answers.{limit, wholeRows}
 use Rattle.leaf.specs.declared.Cursor.{Cursor}
 
@@ -21,23 +21,23 @@ readState c table = record { cursor = c; table = table }
 
 -- The cursor of a reading that begins
 abbrev pub newCursor : Cursor
-newCursor = record { at = 0; rows = 0; refusal = 0; short = 0; place = 0; value = 0 }
+newCursor = record { at = 0; rows = 0; refusal = 0; value = 0 }
 
 -- The cursor at another place
 abbrev pub seek : (at : ℕ) → Cursor → Cursor
-seek at c = record { at = at; rows = c .rows; refusal = c .refusal; short = c .short; place = c .place; value = c .value }
+seek at c = record { at = at; rows = c .rows; refusal = c .refusal; value = c .value }
 
--- The length that begins at a place of s, 0 where fewer than four bytes are left
-unfoldable pub lengthAt : List ℕ → (place : ℕ) → ℕ
-lengthAt s at = cond (enough s at 4) (numberAt s at) 0
-
--- The cursor, refused
+-- The cursor, refused: it stands at the place of the refusal
 abbrev pub stopped : (number place : ℕ) → Cursor → Cursor
-stopped n p c = record { at = c .at; rows = c .rows; refusal = n; short = c .short; place = p; value = c .value }
+stopped n p c = record { at = p; rows = c .rows; refusal = n; value = c .value }
 
 -- The same, unless it is refused already
 abbrev pub refusedOnce : (number place : ℕ) → Cursor → Cursor
 refusedOnce n p c = cond (eqb (c .refusal) 0) (stopped n p c) c
+
+-- The cursor at the end of a payload: 12 where it stands, if bytes remain
+abbrev pub finishedAt : (end : ℕ) → Cursor → Cursor
+finishedAt end c = cond (ltb (c .at) end) (refusedOnce 12 (c .at) c) c
 
 -- A state whose cursor is refused
 abbrev pub stop : (number place : ℕ) → ReadState → ReadState
@@ -52,19 +52,14 @@ store table i (x ∷ xs) = store (set table i x) (i + 1) xs
 abbrev pub room : ReadState → Bool
 room st = ltb (st .cursor .rows) (wholeRows (st .table))
 
--- A leaf is read: its row is stored if there is room, and the reading goes on behind it
+-- A leaf is read: its row is stored if there is room, and the reading goes on behind it. Rows are counted up to one more than the
+-- table has
 abbrev pub put : (row : List ℕ) (value next : ℕ) → ReadState → ReadState
 put row value next st =
+    let c = st .cursor in
     readState
-    (record {
-      at = next;
-      rows = cond (room st) (st .cursor .rows + 1) (st .cursor .rows);
-      refusal = st .cursor .refusal;
-      short = cond (room st) (st .cursor .short) 1;
-      place = st .cursor .place;
-      value = value;
-    })
-    (cond (room st) (store (st .table) (rowWidth * st .cursor .rows) row) (st .table))
+    (record { at = next; rows = min (c .rows) (wholeRows (st .table)) + 1; refusal = c .refusal; value = value })
+    (cond (room st) (store (st .table) (rowWidth * c .rows) row) (st .table))
 
 -- What a leaf's read makes of a state: its row is put, or it is refused
 abbrev pub arrive : Outcome ℕ Leaf → ReadState → ReadState

@@ -10,7 +10,7 @@ use Rattle.layout.specs.Answers.{limit}
 use Rattle.layout.specs.ReadAlone.{readingAlone}
 use Rattle.leaf.specs.State.{ReadState, readState, newCursor, arrive}
 use Rattle.leaf.specs.Run.{run}
-use Rattle.leaf.specs.Finish.{finished}
+use Rattle.leaf.specs.Answered.{answeredAlone}
 
 -- Leaves that are read one after the other, from where a state stands
 abbrev pub arriveAll : List Leaf → ReadState → ReadState
@@ -20,7 +20,7 @@ arriveAll (x ∷ ls) st = arriveAll ls (arrive (ok x (st .cursor .at + length (l
 -- The state r follows on st by an outcome: the leaves were read, and it stands behind them; or it is refused so
 pub data Follows (st r : ReadState) : Outcome ℕ (List Leaf) → Type 0 where
   moved : {ls : List Leaf} {next : ℕ} → (r ≡ arriveAll ls st) × (r .cursor .at ≡ next) → Follows st r (ok ls next)
-  stops : {n p : ℕ} → (r .cursor .refusal ≡ n) × (n ≡ 0 → ⊥) × (r .cursor .place ≡ p) × (length (r .table) ≡ length (st .table)) → Follows st r (refuse n p)
+  stops : {n p : ℕ} → (r .cursor .refusal ≡ n) × (n ≡ 0 → ⊥) × (r .cursor .at ≡ p) × (length (r .table) ≡ length (st .table)) → Follows st r (refuse n p)
 
 -- `run` follows `read`: `run-read` in Reading.antt
 abbrev pub Run-read : Type 0
@@ -32,8 +32,8 @@ Run-read =
 abbrev pub Run-refused : Type 0
 Run-refused = (L : Layout) (s : List ℕ) (st : ReadState) → (st .cursor .refusal ≡ 0 → ⊥) → run L s st ≡ st
 
--- A reading from the start, finished, is the reading of one value alone: `run-alone` in Finish.antt
+-- The answer of a reading from the start is that of the reading of one value alone: `run-alone` in Answered.antt
 abbrev pub Run-alone : Type 0
 Run-alone =
     (L : Layout) (entities : ℕ) (s table : List ℕ)
-    → finished entities s (run L s (readState newCursor table)) ≡ readingAlone L entities s table
+    → answeredAlone entities s (run L s (readState newCursor table)) ≡ readingAlone L entities s table

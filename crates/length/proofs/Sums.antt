@@ -7,7 +7,8 @@ use lib.ListN.{length, getD, drop, drop-of-length-le}
 use lib.Seq.{drop-cons}
 use borrow.Author.Tests.{le-leb, lt-leb}
 use Rattle.layout.specs.Answers.{limit}
-use Rattle.length.specs.Length.{counted, tooLong, withinLimit, sum}
+use Rattle.table.specs.Answers.{counted}
+use Rattle.length.specs.Length.{tooLong, withinLimit, sum}
 
 -- A length within the limit
 pub within-limit : (n : ℕ) → n ≤ limit → withinLimit n ≡ counted n

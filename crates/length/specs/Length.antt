@@ -5,27 +5,23 @@ use mathlib.Core.List.{List, [], _∷_}
 use mathlib.Core.Option.{Option, none, some}
 use lib.Dec.{leb}
 use Rattle.layout.specs.Answers.{limit}
+use Rattle.table.specs.Answers.{Total, counted, uncounted}
 use Rattle.length.specs.declared.Length.the-variants.{Counted, Refused}
 use Rattle.length.specs.declared.OptionLen.{OptionLen}
 use Rattle.length.specs.declared.OptionLen.the-variants.{Some, None}
 use Rattle.length.specs.declared.Length as declared
 
--- A length in bytes, or a refusal's number and place
-pub data Length : Type 0 where
-  counted : (count : ℕ) → Length
-  refused : (number place : ℕ) → Length
-
 -- The count, or the number and place, of each case
-abbrev pub lengthOf : declared.Length → Length
+abbrev pub lengthOf : declared.Length → Total
 lengthOf (Counted count) = counted count
-lengthOf (Refused number place) = refused number place
+lengthOf (Refused refusal) = uncounted (refusal .number) (refusal .place)
 
 -- 16: the written length is above the limit
-abbrev pub tooLong : Length
-tooLong = refused 16 0
+abbrev pub tooLong : Total
+tooLong = uncounted 16 0
 
 -- What is told of a written length
-unfoldable pub withinLimit : ℕ → Length
+unfoldable pub withinLimit : ℕ → Total
 withinLimit n = cond (leb n limit) (counted n) tooLong
 
 -- A 4-byte length, then as many bytes

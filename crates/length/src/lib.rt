@@ -1,4 +1,6 @@
 // The lengths of what is written, before it is written. A length above the limit is refused, and no sum wraps.
+use layout::LIMIT;
+use table::Refusal;
 ghost use mathlib.Core.Path.{_≡_};
 ghost use Prim.Native.Nat.{_+_, _≤_};
 ghost use lib.ListN.{length};
@@ -10,10 +12,10 @@ ghost use Rattle.length.specs.Length.{lengthOf, tooLong, withinLimit, by
 // The refusal of a length above the limit.
 const TOO_LONG: u32 = 16;
 
-// A length in bytes, or a refusal's number and place.
+// A length in bytes, or a refusal.
 pub enum Length {
     Counted { count: usize },
-    Refused { number: u32, place: usize },
+    Refused(Refusal),
 }
 
 // A length that may be missing.
@@ -75,7 +77,7 @@ pub fn list_len(items: &[usize]) -> Length
     let mut i = 0;
     while i < items.len() {
         let item = items[i];
-        if leaf::LIMIT - total < item {
+        if LIMIT - total < item {
             return too_long();
         }
         total += item;
@@ -89,7 +91,7 @@ fn sum_len(head: usize, len: usize) -> Length
     requires { ⌜ head ≤ limit ⌝ }
     ensures { λ r. ⌜ lengthOf r ≡ withinLimit (head + len) ⌝ }
 {
-    if leaf::LIMIT - head < len {
+    if LIMIT - head < len {
         return too_long();
     }
     Length::Counted { count: head + len }
@@ -98,8 +100,8 @@ fn sum_len(head: usize, len: usize) -> Length
 fn too_long() -> Length
     ensures { λ r. ⌜ lengthOf r ≡ tooLong ⌝ }
 {
-    Length::Refused {
+    Length::Refused(Refusal {
         number: TOO_LONG,
         place: 0,
-    }
+    })
 }

@@ -10,9 +10,9 @@ use borrow.Author.Tests.{le-leb, lt-leb}
 use Rattle.decimal.specs.Ascii.{ascii}
 use Rattle.layout.specs.Written.{rowWidth}
 use Rattle.layout.specs.Answers.{accepted, refused, Result, wholeRows}
-use Rattle.leaf.specs.declared.Answer.the-variants.{Accepted, Refused}
-use Rattle.leaf.specs.declared.Answer as declared
-use Rattle.leaf.specs.Finish.{answerOf, resultOf}
+use Rattle.table.specs.declared.Answer.the-variants.{Accepted, Refused}
+use Rattle.table.specs.declared.Answer as declared
+use Rattle.table.specs.Answers.{answerOf, resultOf}
 use Rattle.section.specs.Section.{reading}
 use Rattle.section.specs.Demand3.{Demand3}
 use Rattle.decimal.specs.Decimal.{decimal}
@@ -94,7 +94,7 @@ pub rows-there : (s table : List ℕ) (answer : declared.Answer) (after : List �
 rows-there s table (Accepted entities rows) after l d =
     let (x, g, h) = d .exact .accepts .0 refl in
     omega (arith, ap (λ (r : Result). r .answer .rows) (d .exact .fits x g h), ap (λ (n : ℕ). n / rowWidth) l)
-rows-there s table (Refused number place) after l d = omega arith
+rows-there s table (Refused refusal) after l d = omega arith
 
 -- The line of a refusal
 pub refuse-put : (number at n : ℕ) (table : List ℕ) (p t : Place) → n ≡ number → t ≡ putAll (line (ascii "refuse" ∷ decimal n ∷ decimal at ∷ [])) p

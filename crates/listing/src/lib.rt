@@ -1,12 +1,13 @@
 // The listing of a section: what its reading answers, as lines of text.
-use leaf::Answer;
+use layout::ROW_WIDTH;
+use table::Answer;
 ghost use mathlib.Core.List.{[], _∷_, map};
 ghost use mathlib.Core.Path.{_≡_};
 ghost use Prim.Native.Nat.{_+_, _*_, _^_, _≤_, _<_};
 ghost use lib.ListN.{length};
 ghost use Rattle.layout.specs.Written.{rowWidth};
 ghost use Rattle.layout.specs.Answers.{wholeRows};
-ghost use Rattle.leaf.specs.Finish.{answerOf};
+ghost use Rattle.table.specs.Answers.{answerOf};
 ghost use Rattle.decimal.specs.Decimal.{decimal};
 ghost use Rattle.listing.specs.Listing.{lentRows, lentTable, line, rowLines, lines, listing, mostListed, atStart};
 ghost use Rattle.listing.specs.Private.{place, putByte, putAll};
@@ -17,7 +18,7 @@ pub const MOST_BYTES: usize = 65536;
 // The rows that are lent for its reading.
 const LENT_ROWS: usize = 5461;
 
-const LENT_NUMBERS: usize = leaf::ROW_WIDTH * LENT_ROWS;
+const LENT_NUMBERS: usize = ROW_WIDTH * LENT_ROWS;
 
 // No listing is longer.
 pub const MOST_LISTED: usize = 49 + 11 * LENT_NUMBERS;
@@ -56,7 +57,12 @@ fn put_answer(out: &mut [u8], answer: Answer, table: &[u32]) -> usize
             let at = put_counts(out, b"accept", entities as u64, rows as u64);
             put_rows(out, at, table, rows)
         }
-        Answer::Refused { number, place } => put_counts(out, b"refuse", wide(number), place as u64),
+        Answer::Refused(refusal) => put_counts(
+            out,
+            b"refuse",
+            wide(refusal.number),
+            refusal.place as u64,
+        ),
     }
 }
 
@@ -80,7 +86,7 @@ fn put_rows(out: &mut [u8], at: usize, table: &[u32], rows: usize) -> usize
     let mut start = 0;
     let mut k = 0;
     while k < rows {
-        let next = start + leaf::ROW_WIDTH;
+        let next = start + ROW_WIDTH;
         end = put_row(out, end, &table[start..next]);
         start = next;
         k += 1;

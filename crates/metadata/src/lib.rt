@@ -1,6 +1,6 @@
 // The metadata of a type: how it maps to SQL as an argument and as a result.
-use leaf::Answer;
 use leaf::Cursor;
+use table::Answer;
 ghost use mathlib.Core.Logic.{_≢_};
 ghost use mathlib.Core.Path.{_≡_};
 ghost use Rattle.layout.specs.Entities.{SqlMapping, SqlArrayMapping, Numeric, Returns, SqlMappingList, ArgumentSql, ReturnSql};
@@ -9,7 +9,7 @@ ghost use Rattle.layout.specs.Alone.{ExactAlone};
 ghost use Rattle.layout.specs.ReadAlone.{readingAlone};
 ghost use Rattle.leaf.specs.State.{readState};
 ghost use Rattle.leaf.specs.Run.{run};
-ghost use Rattle.leaf.specs.Finish.{resultOf};
+ghost use Rattle.table.specs.Answers.{resultOf};
 ghost use Rattle.metadata.specs.Private.{BehindTag};
 
 // As, which most mappings are, is told apart first.
@@ -32,7 +32,7 @@ fn read_other_sql_mapping(c: Cursor, s: &[u8], t: &mut [u32], at: usize) -> Curs
     let tag = c.value;
     match tag {
         layout::SQL_MAPPING_ARRAY => read_sql_array_mapping(c, s, t),
-        layout::SQL_MAPPING_NUMERIC => read_numeric(c.anew(), s, t),
+        layout::SQL_MAPPING_NUMERIC => read_numeric(c.copy(), s, t),
         layout::SQL_MAPPING_COMPOSITE => c,
         layout::SQL_MAPPING_SKIP => c,
         _ => c.refused(9, at),
@@ -47,7 +47,7 @@ pub fn read_sql_array_mapping(c: Cursor, s: &[u8], t: &mut [u32]) -> Cursor
     let tag = c.value;
     match tag {
         layout::SQL_MAPPING_AS => c.read_str(s, t),
-        layout::SQL_MAPPING_NUMERIC => read_numeric(c.anew(), s, t),
+        layout::SQL_MAPPING_NUMERIC => read_numeric(c.copy(), s, t),
         layout::SQL_MAPPING_COMPOSITE => c,
         _ => c.refused(9, at),
     }
@@ -70,7 +70,7 @@ pub fn read_returns(c: Cursor, s: &[u8], t: &mut [u32]) -> Cursor
     let c = c.read_u8(s, t);
     let tag = c.value;
     match tag {
-        layout::RETURNS_ONE..=layout::RETURNS_SET_OF => read_sql_mapping(c.anew(), s, t),
+        layout::RETURNS_ONE..=layout::RETURNS_SET_OF => read_sql_mapping(c.copy(), s, t),
         layout::RETURNS_TABLE => read_sql_mapping_list(c, s, t),
         _ => c.refused(9, at),
     }
@@ -81,12 +81,12 @@ pub fn read_sql_mapping_list(c: Cursor, s: &[u8], t: &mut [u32]) -> Cursor
 {
     let mut c = c.read_count(s, t);
     let count = c.value;
-    let mut i: usize = 0;
+    let mut i: u32 = 0;
     while i < count {
         if c.refusal != 0 {
             return c;
         }
-        c = read_sql_mapping(c.anew(), s, t);
+        c = read_sql_mapping(c.copy(), s, t);
         i += 1;
     }
     c
@@ -99,7 +99,7 @@ pub fn read_argument_sql(c: Cursor, s: &[u8], t: &mut [u32]) -> Cursor
     let c = c.read_u8(s, t);
     let tag = c.value;
     match tag {
-        layout::RESULT_OK => read_sql_mapping(c.anew(), s, t),
+        layout::RESULT_OK => read_sql_mapping(c.copy(), s, t),
         layout::RESULT_ERR => read_argument_error(c, s, t),
         _ => c.refused(9, at),
     }
@@ -148,7 +148,7 @@ pub fn read_function_metadata_type(c: Cursor, s: &[u8], t: &mut [u32]) -> Cursor
     ensures { λ r. ⌜ readState r (now (t .exit)) ≡ run FunctionMetadataType (now (s .entry)) (readState c (now (t .entry))) ⌝ }
 {
     let c = read_option_resolution(c, s, t); // resolution
-    let c = read_argument_sql(c.anew(), s, t); // argument_sql
+    let c = read_argument_sql(c.copy(), s, t); // argument_sql
     read_return_sql(c, s, t) // return_sql
 }
 
@@ -187,7 +187,7 @@ pub fn decode_sql_mapping(s: &[u8], t: &mut [u32]) -> Answer
     ensures { λ r. ⌜ ExactAlone SqlMapping 0 (now (s .entry)) (now (t .entry)) (resultOf r (now (t .exit))) ⌝ }
 {
     let c = read_sql_mapping(Cursor::new(), s, t);
-    c.finish(s, t, 0)
+    c.answer_alone(s, t, 0)
 }
 
 // One metadata record alone, and nothing after it.
@@ -196,5 +196,5 @@ pub fn decode_function_metadata_type(s: &[u8], t: &mut [u32]) -> Answer
     ensures { λ r. ⌜ ExactAlone FunctionMetadataType 0 (now (s .entry)) (now (t .entry)) (resultOf r (now (t .exit))) ⌝ }
 {
     let c = read_function_metadata_type(Cursor::new(), s, t);
-    c.finish(s, t, 0)
+    c.answer_alone(s, t, 0)
 }

@@ -1,5 +1,4 @@
 pub mod RowText
 pub mod SqlName
 pub mod Numeric
-pub mod Places
 pub mod SqlText

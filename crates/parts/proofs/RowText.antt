@@ -13,8 +13,11 @@ use Rattle.layout.specs.Layout.{string, text}
 use Rattle.layout.specs.Reading.{Outcome, ok, refuse, _>>=_, need, utf8, enough, numberAt, bodyAt, read}
 use Rattle.layout.specs.Answers.{limit}
 use Rattle.layout.proofs.Equations.{read-text}
-use Rattle.parts.specs.declared.Row.{Row}
-use Rattle.parts.specs.Parts.{isText, rowText, partOf, numberIn, placeIn}
+use Rattle.table.specs.declared.Row.{Row}
+use Rattle.parts.specs.declared.TextPlace.{TextPlace}
+use Rattle.parts.specs.declared.TextPlace.the-variants.{Section, Refused}
+use Rattle.parts.specs.Parts.{rowText, numberIn, foundPart}
+use Rattle.parts.specs.Private.{LiesIn}
 use Rattle.parts.specs.Theorems.{Row-lies, Row-part}
 use Rattle.text.specs.Walk as automaton
 
@@ -42,23 +45,6 @@ module _ (s : List ℕ) (row : Row) where
         unfolding rowText utf8
         is-text u = rw (le-leb (length s) limit small, eq-eqb (row .sort) textSort z, le-leb (row .offset + row .value) (length s) h, ← q, u)
 
-  -- A row's refusals all have place 0
-  pub place-0 : placeIn (rowText s row) ≡ 0
-  unfolding rowText
-  place-0 = go (leb (length s) limit) (isText s row)
-    where
-      go : (a b : Bool) → placeIn (need a 1 0 (need b 15 0 (ok (row .offset) (row .offset + row .value)))) ≡ 0
-      go true true = refl
-      go true false = refl
-      go false b = refl
-
-  pub refused-empty : (numberIn (rowText s row) ≡ 0 → ⊥) → [] ≡ partOf s (rowText s row)
-  refused-empty h = go (rowText s row) h
-    where
-      go : (o : Outcome ℕ ℕ) → (numberIn o ≡ 0 → ⊥) → [] ≡ partOf s o
-      go (ok start end) h = absurd (h refl)
-      go (refuse n p) h = refl
-
   -- A row that is not refused
   pub accepted : numberIn (rowText s row) ≡ 0 → (row .offset + row .value ≤ length s) × (rowText s row ≡ ok (row .offset) (row .offset + row .value))
   unfolding rowText
@@ -80,6 +66,11 @@ row-lies s row start end e =
     let a : start ≡ row .offset = cc in
     let b : end ≡ row .offset + row .value = cc in
     (omega arith, omega arith)
+
+-- So does what was found of it
+pub row-lies-in : (s : List ℕ) (row : Row) (p : TextPlace) → foundPart p ≡ rowText s row → LiesIn (length s) p
+row-lies-in s row (Section start len) e = row-lies s row start (start + len) (sym e) .1
+row-lies-in s row (Refused refusal) e = tt
 
 -- What is read as a text
 read-body : (s : List ℕ) (at : ℕ) (t : List ℕ) (end : ℕ) → read text s at ≡ ok (string t ∷ []) end

@@ -8,9 +8,12 @@ use lib.Dec.{eqb}
 use lib.ListN.{length, getD, take, drop, length-drop}
 use lib.Seq.{drop-cons, drop-at, drop-drop, take-add, length-take-le}
 use Rattle.layout.specs.Reading.{Outcome, ok, refuse}
-use Rattle.parts.specs.Parts.{between, rowText, partOf, colon, afterLast, sqlName, sqlNameIn}
+use Rattle.table.specs.declared.Row.{Row}
+use Rattle.parts.specs.declared.TextPlace.{TextPlace}
+use Rattle.parts.specs.declared.TextPlace.the-variants.{Section, Refused}
+use Rattle.parts.specs.Parts.{between, rowText, partOf, numberIn, placeIn, colon, afterLast, sqlName, sqlNameIn, foundPart}
 use Rattle.parts.specs.Theorems.{Name-end, Name-part, Name-cases}
-use Rattle.parts.specs.Private.{colonsAt}
+use Rattle.parts.specs.Private.{LiesIn, colonsAt}
 use Rattle.parts.proofs.RowText.{row-lies}
 
 -- Two bytes at a place, and what follows them
@@ -93,3 +96,29 @@ name-part s row = go (rowText s row) (row-lies s row)
 pub name-cases : Name-cases
 unfolding sqlName
 name-cases = (refl, refl, refl)
+
+-- The SQL name of a text that stands from a start on begins so many bytes behind it
+pub name-placed : (s : List ℕ) (start len before : ℕ) (o : Outcome ℕ ℕ) → o ≡ ok start (start + len) → start + len ≤ length s
+    → before ≤ length (between s start (start + len)) → drop before (between s start (start + len)) ≡ sqlName (between s start (start + len))
+    → ok (start + before) (start + before + (len - before)) ≡ sqlNameIn s o
+name-placed s start len before o e h k q =
+    let name = between s start (start + len) in
+    let l : length name ≡ len = length-take-le (start + len - start) (drop start s) (omega (arith, length-drop start s)) ∙ omega arith in
+    let m : length (sqlName name) ≡ len - before = sym (ap length q) ∙ length-drop before name ∙ omega arith in
+    let a : start + before ≡ start + len - length (sqlName name) = omega (arith, l, m) in
+    let b : start + before + (len - before) ≡ start + len = omega (arith, l) in
+    ap (λ (n : ℕ). ok n (start + before + (len - before))) a ∙ ap (ok (start + len - length (sqlName name))) b ∙ sym (ap (sqlNameIn s) e)
+
+-- Its refusals are those of the name
+pub name-refusal : (s : List ℕ) (o : Outcome ℕ ℕ) → (numberIn (sqlNameIn s o) ≡ numberIn o) × (placeIn (sqlNameIn s o) ≡ placeIn o)
+name-refusal s (ok start end) = (refl, refl)
+name-refusal s (refuse n p) = (refl, refl)
+
+-- What was found of it lies in the bytes
+pub name-lies-in : (s : List ℕ) (row : Row) (p : TextPlace) → foundPart p ≡ sqlNameIn s (rowText s row) → LiesIn (length s) p
+name-lies-in s row (Section start len) e = go (rowText s row) refl e
+  where
+    go : (o : Outcome ℕ ℕ) → rowText s row ≡ o → ok start (start + len) ≡ sqlNameIn s o → start + len ≤ length s
+    go (ok a b) k q = let z : start + len ≡ b = cc in omega (arith, row-lies s row a b k .1)
+    go (refuse n p) k q = let z : _≡_ {A = ℕ} 0 1 = cc in absurd (omega arith)
+name-lies-in s row (Refused refusal) e = tt

@@ -23,22 +23,21 @@ use Rattle.leaf.specs.Run.{run}
 use Rattle.leaf.specs.Theorems.{arriveAll, Follows}
 use Rattle.leaf.proofs.Reading.{arriveAll-refusal, moved-of, stops-of, run-read}
 use Rattle.parts.specs.declared.Found.{Found}
-use Rattle.parts.specs.declared.Found.the-variants.{Refused, Stored, Numeric as Numeric′}
+use Rattle.parts.specs.declared.Found.the-variants.{Stored, Numeric as Numeric′}
 use Rattle.parts.specs.declared.OptionU32.{OptionU32}
 use Rattle.parts.specs.declared.SqlPlace.{SqlPlace}
 use Rattle.parts.specs.Parts.{numberIn, placeIn}
 use Rattle.parts.specs.Numeric.{numericSize, optionOf}
 use Rattle.parts.specs.SqlText.{TextMapping, SqlText, in-section, in-buffer, numberIf, textOfLeaves, sqlTextOf, sqlText, SqlAnswer, sqlAnswer, sqlAnswerOf}
 use Rattle.parts.specs.Theorems.{As-part, Filled-part}
-use Rattle.parts.specs.Private.{outcomeOf, sizedFor, Within}
-use Rattle.parts.proofs.Places.{refused-within}
+use Rattle.parts.specs.Private.{outcomeOf, noText, sizedFor, Within}
 
 -- What the code finds is right
 abbrev pub Right : (s : List ℕ) (at size : ℕ) → Found → Type 0
 Right s at size r = (outcomeOf r ≡ sqlText s at size) × Within (length s) size r
 
 module _ (s : List ℕ) (at size : ℕ) where
-  pub too-long : limit < length s → Right s at size (Refused 1 0)
+  pub too-long : limit < length s → Right s at size (noText 1 0)
   unfolding sqlText
   too-long h = (rw (lt-leb (length s) limit h), tt)
 
@@ -57,7 +56,7 @@ module _ (s : List ℕ) (at size : ℕ) where
       unfolding sqlText TextMapping
       good v = rw (le-leb (length s) limit small, read-check SqlMapping (λ values. asOrNumeric 1 (getD values 0 0)) s at, e, v)
 
-      good-as : valueIn ls 0 ≡ 1 → (x : ℕ) → x ≡ end → sqlText s at size ≡ need (eqb size numericSize) 17 0 (outcomeOf (Stored (at + 5) x))
+      good-as : valueIn ls 0 ≡ 1 → (x : ℕ) → at + 5 + x ≡ end → sqlText s at size ≡ need (eqb size numericSize) 17 0 (outcomeOf (Stored (at + 5) x))
       good-as h x l = good (rw h) ∙ rw (h, l)
 
       good-numeric : valueIn ls 0 ≡ 3 → (p q : OptionU32) → optionOf p ≡ numberIf (valueIn ls 1) (valueIn ls 2) → optionOf q ≡ numberIf (valueIn ls 3) (valueIn ls 4)
@@ -68,7 +67,7 @@ module _ (s : List ℕ) (at size : ℕ) where
       → Right s at size (sizedFor size found)
   sized-right found e w = rw e (go (eqb size numericSize) refl)
     where
-      go : (b : Bool) → eqb size numericSize ≡ b → (outcomeOf (cond b found (Refused 17 0)) ≡ need b 17 0 (outcomeOf found)) × Within (length s) size (cond b found (Refused 17 0))
+      go : (b : Bool) → eqb size numericSize ≡ b → (outcomeOf (cond b found (noText 17 0)) ≡ need b 17 0 (outcomeOf found)) × Within (length s) size (cond b found (noText 17 0))
       go true h = (refl, w (eqb-true size numericSize h))
       go false h = (refl, tt)
 
@@ -134,20 +133,15 @@ module _ (s : List ℕ) (at size : ℕ) (small : length s ≤ limit) (c : Cursor
   followed : Follows (begun at) r (read SqlMapping s at)
   followed = rw (e, b) (run-read s small SqlMapping (begun at) refl)
 
-  stop-read : (r .cursor .refusal ≡ 0 → ⊥) → read SqlMapping s at ≡ refuse (r .cursor .refusal) (r .cursor .place)
+  stop-read : (r .cursor .refusal ≡ 0 → ⊥) → read SqlMapping s at ≡ refuse (r .cursor .refusal) (r .cursor .at)
   stop-read h = go (read SqlMapping s at) followed
     where
-      go : (o : Outcome ℕ (List Leaf)) → Follows (begun at) r o → o ≡ refuse (r .cursor .refusal) (r .cursor .place)
+      go : (o : Outcome ℕ (List Leaf)) → Follows (begun at) r o → o ≡ refuse (r .cursor .refusal) (r .cursor .at)
       go (ok ls end) f = absurd (h (ap (λ (x : ReadState). x .cursor .refusal) (moved-of f .0) ∙ arriveAll-refusal ls (begun at)))
       go (refuse n p) f = rw (stops-of f .0, stops-of f .2)
 
-  pub stop-place : (r .cursor .refusal ≡ 0 → ⊥) → at < 4294967296 → r .cursor .place < 4294967296
-  stop-place h k =
-      let l : r .cursor .place ≤ 4294967295 = refused-within s 4294967295 (omega arith) SqlMapping at (r .cursor .refusal) (r .cursor .place) (omega arith) (stop-read h) in
-      omega arith
-
-  pub stop-right : (r .cursor .refusal ≡ 0 → ⊥) → Right s at size (Refused (r .cursor .refusal) (r .cursor .place))
-  stop-right h = (refused s at size small (r .cursor .refusal) (r .cursor .place) (stop-read h), tt)
+  pub stop-right : (r .cursor .refusal ≡ 0 → ⊥) → Right s at size (noText (r .cursor .refusal) (r .cursor .at))
+  stop-right h = (refused s at size small (r .cursor .refusal) (r .cursor .at) (stop-read h), tt)
 
   module _ (u : Bytes s) (z : r .cursor .refusal ≡ 0) where
     was-read : (ls : List Leaf) × (end : ℕ) × (read SqlMapping s at ≡ ok ls end) × (r ≡ arriveAll ls (begun at)) × (r .cursor .at ≡ end)
@@ -161,18 +155,22 @@ module _ (s : List ℕ) (at size : ℕ) (small : length s ≤ limit) (c : Cursor
     pub tag-left : at + 1 ≤ length s
     tag-left = let (ls, end, q, m, k) = was-read in tagged s u at ls end q .4
 
-    pub other-right : (getD s at 0 ≡ 1 → ⊥) → (getD s at 0 ≡ 3 → ⊥) → Right s at size (Refused 10 at)
+    pub other-right : (getD s at 0 ≡ 1 → ⊥) → (getD s at 0 ≡ 3 → ⊥) → Right s at size (noText 10 at)
     other-right h k =
         let (ls, end, q, m, l) = was-read in
         let f = first s u at ls end q in
         (other s at size small ls end q (λ x. h (sym f ∙ x)) (λ x. k (sym f ∙ x)), tt)
 
-    pub as-right : getD s at 0 ≡ 1 → Right s at size (sizedFor size (Stored (at + 5) (r .cursor .at)))
+    pub as-begins : getD s at 0 ≡ 1 → at + 5 ≤ r .cursor .at
+    as-begins h = let (ls, end, q, m, l) = was-read in omega (arith, as-ends s u at ls end q h)
+
+    pub as-right : getD s at 0 ≡ 1 → Right s at size (sizedFor size (Stored (at + 5) (r .cursor .at - (at + 5))))
     as-right h =
         let (ls, end, q, m, l) = was-read in
         let f = first s u at ls end q ∙ h in
         let w : end ≤ length s = tagged s u at ls end q .5 in
-        sized-right s at size (Stored (at + 5) (r .cursor .at)) (good-as s at size small ls end q f (r .cursor .at) l) (λ x. (omega (arith, as-ends s u at ls end q h), omega arith))
+        let k : at + 5 + (r .cursor .at - (at + 5)) ≡ end = omega (arith, as-begins h) in
+        sized-right s at size (Stored (at + 5) (r .cursor .at - (at + 5))) (good-as s at size small ls end q f (r .cursor .at - (at + 5)) k) (λ x. omega arith)
 
     pub numeric-right : getD s at 0 ≡ 3 → (p q : OptionU32) → optionOf p ≡ numberIf (valueAt (r .table) 1) (valueAt (r .table) 2)
         → optionOf q ≡ numberIf (valueAt (r .table) 3) (valueAt (r .table) 4) → Right s at size (sizedFor size (Numeric′ p q))
@@ -181,6 +179,12 @@ module _ (s : List ℕ) (at size : ℕ) (small : length s ≤ limit) (c : Cursor
         let (x₁, x₂, x₃, x₄, k) = numeric-leaves s u at ls end i h in
         let (v₁, v₂, v₃, v₄) = values at ls x₁ x₂ x₃ x₄ r k m in
         sized-right s at size (Numeric′ p q) (good-numeric s at size small ls end i (first s u at ls end i ∙ h) p q (hp ∙ rw (v₁, v₂)) (hq ∙ rw (v₃, v₄))) (λ x. x)
+
+-- A text that stands in the section, as an answer
+pub stored-answer : (start len : ℕ) (o : Outcome ℕ SqlText) → ok (in-section start) (start + len) ≡ o → record { number = 0; place = 0; buffered = false; begin = start; len = len } ≡ sqlAnswer o
+stored-answer start len o e =
+    let l : len ≡ start + len - start = omega arith in
+    ap (λ (n : ℕ). record { number = 0; place = 0; buffered = false; begin = start; len = n }) l ∙ ap sqlAnswer e
 
 pub told : (o : Outcome ℕ SqlText) (q r : SqlPlace) → q ≡ r → sqlAnswerOf q ≡ sqlAnswer o → (sqlAnswerOf r .number ≡ numberIn o) × (sqlAnswerOf r .place ≡ placeIn o)
 told o q r k h =
@@ -195,7 +199,8 @@ told o q r k h =
 pub as-part : As-part
 as-part s small u at t end e buffer =
     let ls = plain Tag 1 ∷ string t ∷ [] in
-    let o : sqlText s at numericSize ≡ ok (in-section (at + 5)) end = good-as s at numericSize small ls end e refl end refl in
+    let m : at + 5 + (end - (at + 5)) ≡ end = omega (arith, as-ends s u at ls end e (sym (first s u at ls end e))) in
+    let o : sqlText s at numericSize ≡ ok (in-section (at + 5)) end = good-as s at numericSize small ls end e refl (end - (at + 5)) m ∙ ap (ok (in-section (at + 5))) m in
     let (v, p, q, (a, b)) = read-sound SqlMapping s u at ls end e in
     let k : bytesOf (leaves SqlMapping v) ≡ (1 ∷ four (length t)) ++ t = rw (q, append-nil t) in
     let l : end - (at + 5) ≡ length t = omega (arith, b, ap length k) in

@@ -7,7 +7,9 @@ use lib.ListN.{length, take, drop}
 use Rattle.layout.specs.Written.{textSort}
 use Rattle.layout.specs.Reading.{Outcome, ok, refuse, need, utf8, enough}
 use Rattle.layout.specs.Answers.{limit}
-use Rattle.parts.specs.declared.Row.{Row}
+use Rattle.table.specs.declared.Row.{Row}
+use Rattle.parts.specs.declared.TextPlace.{TextPlace}
+use Rattle.parts.specs.declared.TextPlace.the-variants.{Section, Refused}
 
 -- The part of some bytes from a start up to an end
 abbrev pub between : List ℕ → (start end : ℕ) → List ℕ
@@ -56,3 +58,8 @@ sqlName name = afterLast name name
 abbrev pub sqlNameIn : List ℕ → Outcome ℕ ℕ → Outcome ℕ ℕ
 sqlNameIn s (ok start end) = ok (end - length (sqlName (between s start end))) end
 sqlNameIn s (refuse n p) = refuse n p
+
+-- What each case of the code's answer is: a start and an end; or a refusal's number and place
+abbrev pub foundPart : TextPlace → Outcome ℕ ℕ
+foundPart (Section start len) = ok start (start + len)
+foundPart (Refused refusal) = refuse (refusal .number) (refusal .place)

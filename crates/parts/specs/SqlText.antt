@@ -79,4 +79,4 @@ sqlAnswer (refuse number place) = refusedSql number place
 abbrev pub sqlAnswerOf : SqlPlace → SqlAnswer
 sqlAnswerOf (Section start len) = record { number = 0; place = 0; buffered = false; begin = start; len = len }
 sqlAnswerOf (Buffer len) = record { number = 0; place = 0; buffered = true; begin = 0; len = len }
-sqlAnswerOf (Refused number place) = refusedSql number place
+sqlAnswerOf (Refused refusal) = refusedSql (refusal .number) (refusal .place)

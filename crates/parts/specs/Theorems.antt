@@ -10,7 +10,7 @@ use Rattle.layout.specs.Entities.{SqlMapping}
 use Rattle.layout.specs.Reading.{ok, read}
 use Rattle.layout.specs.Answers.{limit}
 use Rattle.layout.specs.Theorems.{Bytes}
-use Rattle.parts.specs.declared.Row.{Row}
+use Rattle.table.specs.declared.Row.{Row}
 use Rattle.parts.specs.Parts.{rowText, partOf, sqlName, sqlNameIn}
 use Rattle.parts.specs.Numeric.{numericSize}
 use Rattle.parts.specs.SqlText.{in-buffer, sqlText, sqlPartOf, filled}

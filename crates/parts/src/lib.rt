@@ -1,19 +1,21 @@
 // Texts as parts of the caller's bytes: the text of a row, the SQL name of a declaration, the SQL text of a mapping.
+use layout::LIMIT;
+use layout::ROW_WIDTH;
 use leaf::Cursor;
+use table::Refusal;
+use table::Row;
 ghost use mathlib.Core.Path.{_≡_};
 ghost use Prim.Native.Nat.{_+_, _*_, _<_, _≤_};
 ghost use lib.ListN.{length, drop};
 ghost use Rattle.decimal.specs.Decimal.{decimal};
 ghost use Rattle.layout.specs.Written.{rowWidth, valueAt};
+ghost use Rattle.layout.specs.Reading.{refuse};
 ghost use Rattle.leaf.specs.State.{newCursor, seek};
 ghost use Rattle.paste.specs.Pasted.{pasted};
-ghost use Rattle.parts.specs.Parts.{rowText, partOf, numberIn, placeIn, sqlName};
+ghost use Rattle.parts.specs.Parts.{rowText, partOf, numberIn, placeIn, sqlName, sqlNameIn, foundPart};
 ghost use Rattle.parts.specs.Numeric.{numericText, numericSize, numericSql, optionOf};
 ghost use Rattle.parts.specs.SqlText.{numberIf, sqlText, sqlPartOf, filled, sqlAnswer, sqlAnswerOf};
-ghost use Rattle.parts.specs.Private.{colonsAt, outcomeOf, sizedFor, Within};
-
-// The place of the value in a row.
-const ROW_VALUE: usize = 2;
+ghost use Rattle.parts.specs.Private.{LiesIn, colonsAt, outcomeOf, noText, sizedFor, Within};
 
 // The most bytes of a Numeric text.
 pub const NUMERIC_SQL_SIZE: usize = 31;
@@ -28,64 +30,100 @@ const HAS_SCALE: usize = 3;
 // The bytes of an As mapping before its text: its tag and the text's length.
 const AS_HEAD: usize = 5;
 
-// A row of a reading.
-pub struct Row {
-    pub sort: u32,
-    pub offset: u32,
-    pub value: u32,
+// Where a text stands in the section: from a start on; or nowhere, with a refusal.
+pub enum TextPlace {
+    Section { start: usize, len: usize },
+    Refused(Refusal),
+}
+
+// Where the text of a row stands.
+pub fn place_row_text(section: &[u8], row: Row) -> TextPlace
+    ensures { λ r. ⌜ foundPart r ≡ rowText (now (section .entry)) row ⌝ }
+{
+    if LIMIT < section.len() {
+        return no_place(1);
+    }
+    if row.sort != layout::SORT_TEXT {
+        return no_place(15);
+    }
+    let start = row.offset as usize;
+    let len = row.value as usize;
+    if section.len() < start {
+        return no_place(15);
+    }
+    if section.len() - start < len {
+        return no_place(15);
+    }
+    let end = start + len;
+    if text::is_utf8(&section[start..end]) {
+        return TextPlace::Section { start, len };
+    }
+    no_place(15)
+}
+
+// A refusal, at no place.
+fn no_place(number: u32) -> TextPlace
+    ensures { λ r. ⌜ foundPart r ≡ refuse number 0 ⌝ }
+{
+    TextPlace::Refused(Refusal { number, place: 0 })
 }
 
 // The text of a row, a part of the section; or an empty part, with the refusal's number and place.
-pub fn row_text<'a>(section: &'a [u8], row: Row, number: &mut u32, place: &mut u32) -> &'a [u8]
+pub fn row_text<'a>(section: &'a [u8], row: Row, number: &mut u32, place: &mut usize) -> &'a [u8]
     ensures { λ r. ⌜ now r ≡ partOf (now (section .entry)) (rowText (now (section .entry)) row) ⌝ }
     ensures { λ r. ⌜ now (number .exit) ≡ numberIn (rowText (now (section .entry)) row) ⌝ }
     ensures { λ r. ⌜ now (place .exit) ≡ placeIn (rowText (now (section .entry)) row) ⌝ }
 {
-    let refusal = row_refusal(section, row);
-    *number = refusal;
-    *place = 0;
-    if refusal != 0 {
-        return &section[..0];
-    }
-    let start = row.offset as usize;
-    let end = start + row.value as usize;
-    &section[start..end]
+    let found = place_row_text(section, row);
+    part_at(section, found, number, place)
 }
 
-// The number of a row's refusal, or 0.
-fn row_refusal(section: &[u8], row: Row) -> u32
-    ensures { λ r. ⌜ r ≡ numberIn (rowText (now (section .entry)) row) ⌝ }
+// Where the SQL name of a declaration stands, from the row of the declaration's name.
+pub fn place_sql_name(section: &[u8], row: Row) -> TextPlace
+    ensures { λ r. ⌜ foundPart r ≡ sqlNameIn (now (section .entry)) (rowText (now (section .entry)) row) ⌝ }
 {
-    if leaf::LIMIT < section.len() {
-        return 1;
+    let found = place_row_text(section, row);
+    let TextPlace::Section { start, len } = found else {
+        return found;
+    };
+    let end = start + len;
+    let before = last_start(&section[start..end]);
+    TextPlace::Section {
+        start: start + before,
+        len: len - before,
     }
-    if row.sort != leaf::SORT_TEXT {
-        return 15;
-    }
-    let start = row.offset as usize;
-    let size = row.value as usize;
-    if section.len() < start {
-        return 15;
-    }
-    if section.len() - start < size {
-        return 15;
-    }
-    let end = start + size;
-    if text::is_utf8(&section[start..end]) {
-        return 0;
-    }
-    15
 }
 
 // The SQL name of a declaration, a part of the section, from the row of the declaration's name.
-pub fn sql_name<'a>(section: &'a [u8], row: Row, number: &mut u32, place: &mut u32) -> &'a [u8]
+pub fn sql_name<'a>(section: &'a [u8], row: Row, number: &mut u32, place: &mut usize) -> &'a [u8]
     ensures { λ r. ⌜ now r ≡ sqlName (partOf (now (section .entry)) (rowText (now (section .entry)) row)) ⌝ }
     ensures { λ r. ⌜ now (number .exit) ≡ numberIn (rowText (now (section .entry)) row) ⌝ }
     ensures { λ r. ⌜ now (place .exit) ≡ placeIn (rowText (now (section .entry)) row) ⌝ }
 {
-    let name = row_text(section, row, number, place);
-    let start = last_start(name);
-    &name[start..]
+    let found = place_sql_name(section, row);
+    part_at(section, found, number, place)
+}
+
+// The text at a place, which lies in the section; or an empty part, with the refusal's number and place.
+fn part_at<'a>(section: &'a [u8], found: TextPlace, number: &mut u32, place: &mut usize) -> &'a [u8]
+    requires { ⌜ LiesIn (length (now section)) found ⌝ }
+    ensures { λ r. ⌜ now r ≡ partOf (now (section .entry)) (foundPart found) ⌝ }
+    ensures { λ r. ⌜ now (number .exit) ≡ numberIn (foundPart found) ⌝ }
+    ensures { λ r. ⌜ now (place .exit) ≡ placeIn (foundPart found) ⌝ }
+{
+    *number = 0;
+    *place = 0;
+    match found {
+        TextPlace::Refused(refusal) => {
+            *number = refusal.number;
+            *place = refusal.place;
+            &section[..0]
+        }
+        TextPlace::Section { start, len } => {
+            let end = start + len;
+            &section[start..end]
+        }
+    }
 }
 
 // Where the SQL name begins in a name: after the last `::`.
@@ -171,12 +209,12 @@ fn put(out: &mut [u8], at: usize, text: &[u8]) -> usize
     at + text.len()
 }
 
-// Where the SQL text of a mapping stands: in the section, from a start on; at the start of the buffer; or nowhere, with the
-// refusal's number and place.
+// Where the SQL text of a mapping stands: in the section, from a start on; at the start of the buffer; or nowhere, with a
+// refusal.
 pub enum SqlPlace {
     Section { start: usize, len: usize },
     Buffer { len: usize },
-    Refused { number: u32, place: u32 },
+    Refused(Refusal),
 }
 
 // Fills the start of a lent buffer with the SQL text of the mapping at an offset, if the mapping is Numeric, and says where the
@@ -187,11 +225,8 @@ pub fn place_sql_text(section: &[u8], offset: u32, buffer: &mut [u8]) -> SqlPlac
 {
     let found = find_sql_text(section, offset, buffer.len());
     match found {
-        Found::Refused(number, place) => SqlPlace::Refused { number, place },
-        Found::Stored(start, end) => SqlPlace::Section {
-            start,
-            len: end - start,
-        },
+        Found::Refused(refusal) => SqlPlace::Refused(refusal),
+        Found::Stored(start, len) => SqlPlace::Section { start, len },
         Found::Numeric(precision, scale) => {
             let sql = numeric_sql_string(precision, scale);
             let bytes = sql.bytes;
@@ -208,7 +243,7 @@ pub fn fill_sql_text(
     offset: u32,
     buffer: &mut [u8],
     number: &mut u32,
-    place: &mut u32,
+    place: &mut usize,
 )
     ensures { λ r. ⌜ now (buffer .exit) ≡ filled (now (buffer .entry)) (sqlText (now (section .entry)) offset (length (now (buffer .entry)))) ⌝ }
     ensures { λ r. ⌜ now (number .exit) ≡ numberIn (sqlText (now (section .entry)) offset (length (now (buffer .entry)))) ⌝ }
@@ -218,12 +253,9 @@ pub fn fill_sql_text(
     *place = 0;
     let found = place_sql_text(section, offset, buffer);
     match found {
-        SqlPlace::Refused {
-            number: n,
-            place: p,
-        } => {
-            *number = n;
-            *place = p;
+        SqlPlace::Refused(refusal) => {
+            *number = refusal.number;
+            *place = refusal.place;
         }
         SqlPlace::Section { start: _, len: _ } => {}
         SqlPlace::Buffer { len: _ } => {}
@@ -236,7 +268,7 @@ pub fn sql_text<'a>(
     offset: u32,
     buffer: &'a [u8],
     number: &mut u32,
-    place: &mut u32,
+    place: &mut usize,
 ) -> &'a [u8]
     ensures { λ r. ⌜ now r ≡ sqlPartOf (now (section .entry)) (now (buffer .entry)) (sqlText (now (section .entry)) offset (length (now (buffer .entry)))) ⌝ }
     ensures { λ r. ⌜ now (number .exit) ≡ numberIn (sqlText (now (section .entry)) offset (length (now (buffer .entry)))) ⌝ }
@@ -246,12 +278,15 @@ pub fn sql_text<'a>(
     *place = 0;
     let found = find_sql_text(section, offset, buffer.len());
     match found {
-        Found::Refused(n, p) => {
-            *number = n;
-            *place = p;
+        Found::Refused(refusal) => {
+            *number = refusal.number;
+            *place = refusal.place;
             &section[..0]
         }
-        Found::Stored(start, end) => &section[start..end],
+        Found::Stored(start, len) => {
+            let end = start + len;
+            &section[start..end]
+        }
         Found::Numeric(precision, scale) => {
             let sql = numeric_sql_string(precision, scale);
             let len = sql.len;
@@ -260,10 +295,10 @@ pub fn sql_text<'a>(
     }
 }
 
-// What is found where an SQL text is looked for: a refusal's number and place; a text stored from a start up to an end; or a
-// Numeric mapping's precision and scale.
+// What is found where an SQL text is looked for: a refusal; a text stored from a start on, of some length; or a Numeric mapping's
+// precision and scale.
 enum Found {
-    Refused(u32, u32),
+    Refused(Refusal),
     Stored(usize, usize),
     Numeric(OptionU32, OptionU32),
 }
@@ -272,24 +307,27 @@ enum Found {
 fn find_sql_text(section: &[u8], offset: u32, size: usize) -> Found
     ensures { λ r. ⌜ (outcomeOf r ≡ sqlText (now (section .entry)) offset size) × Within (length (now (section .entry))) size r ⌝ }
 {
-    if leaf::LIMIT < section.len() {
-        return Found::Refused(1, 0);
+    if LIMIT < section.len() {
+        return not_found(1, 0);
     }
     let at = offset as usize;
-    let mut t = [0u32; NUMERIC_ROWS * leaf::ROW_WIDTH];
+    let mut t = [0u32; NUMERIC_ROWS * ROW_WIDTH];
     let c = metadata::read_sql_mapping(cursor_at(at), section, &mut t);
     if c.refusal != 0 {
-        return Found::Refused(c.refusal, c.place as u32);
+        return not_found(c.refusal, c.at);
     }
-    let tag = wide(section[at]);
+    let tag = bytes::wide(section[at]);
     match tag {
-        layout::SQL_MAPPING_AS => sized(size, Found::Stored(at + AS_HEAD, c.at)),
+        layout::SQL_MAPPING_AS => {
+            let start = at + AS_HEAD;
+            sized(size, Found::Stored(start, c.at - start))
+        }
         layout::SQL_MAPPING_NUMERIC => {
             let precision = option_in(&t, HAS_PRECISION);
             let scale = option_in(&t, HAS_SCALE);
             sized(size, Found::Numeric(precision, scale))
         }
-        _ => Found::Refused(10, offset),
+        _ => not_found(10, at),
     }
 }
 
@@ -298,9 +336,16 @@ fn sized(size: usize, found: Found) -> Found
     ensures { λ r. ⌜ r ≡ sizedFor size found ⌝ }
 {
     if size != NUMERIC_SQL_SIZE {
-        return Found::Refused(17, 0);
+        return not_found(17, 0);
     }
     found
+}
+
+// A refusal, where an SQL text was looked for.
+fn not_found(number: u32, place: usize) -> Found
+    ensures { λ r. ⌜ r ≡ noText number place ⌝ }
+{
+    Found::Refused(Refusal { number, place })
 }
 
 // A cursor at a byte.
@@ -315,16 +360,10 @@ fn option_in(t: &[u32], row: usize) -> OptionU32
     requires { ⌜ rowWidth * (row + 2) ≤ length (now t) ⌝ }
     ensures { λ r. ⌜ optionOf r ≡ numberIf (valueAt (now (t .entry)) row) (valueAt (now (t .entry)) (row + 1)) ⌝ }
 {
-    let flag = leaf::ROW_WIDTH * row + ROW_VALUE;
-    let number = flag + leaf::ROW_WIDTH;
-    if t[flag] == 1 {
-        return OptionU32::Some(t[number]);
+    let flag = table::row_at(t, row);
+    let number = table::row_at(t, row + 1);
+    if flag.value == 1 {
+        return OptionU32::Some(number.value);
     }
     OptionU32::None
-}
-
-fn wide(x: u8) -> usize
-    ensures { λ r. ⌜ r ≡ x ⌝ }
-{
-    x as usize
 }

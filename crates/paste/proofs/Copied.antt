@@ -1,5 +1,5 @@
 -- The bytes of a text stored part by part.
-use Prim.Native.Nat.{ℕ, zero, suc, _+_, _-_, _≤_}
+use Prim.Native.Nat.{ℕ, zero, suc, _+_, _-_, _≤_, _<_}
 use native.Mathlib.Omega.{arith}
 use mathlib.Core.List.{List, [], _∷_, _++_}
 use mathlib.Core.Path.{_≡_, refl, sym, ap, _∙_}
@@ -7,7 +7,7 @@ use lib.ListN.{length, getD, take, drop, set, take-append-drop}
 use lib.Seq.{slice, slice-empty, slice-cons, length-slice, take-take, take-length, length-take-le, drop-append-le}
 use Rattle.paste.specs.Pasted.{pasted}
 use Rattle.paste.specs.Private.{copied}
-use Rattle.paste.proofs.Pasted.{pasted-none, pasted-length, pasted-append, pasted-over, stored, stored-pasted}
+use Rattle.paste.proofs.Pasted.{pasted-none, pasted-length, pasted-append, pasted-over, set-pasted, stored, stored-pasted}
 
 -- Two neighbouring parts make one
 slice-join : (l : List ℕ) (a i e : ℕ) → a ≤ i → i ≤ e → e ≤ length l → slice a i l ++ slice i e l ≡ slice a e l
@@ -24,10 +24,28 @@ reads-slice : (l : List ℕ) (i k n e : ℕ) → i + k + n ≡ e → e ≤ lengt
 reads-slice l i k zero e p h = let q : e ≡ i + k = omega arith in rw (q, slice-empty)
 reads-slice l i k (suc n) e p h = let q : i + suc k ≡ suc (i + k) = omega arith in rw (slice-cons (i + k) e l 0 (omega arith) h, ← q, reads-slice l i (suc k) n e (omega arith) h)
 
+-- The same with the first of them at the place itself
+pub read-slice : (l : List ℕ) (i n : ℕ) → i + suc n ≤ length l → getD l i 0 ∷ reads l i 1 n ≡ slice i (i + suc n) l
+read-slice l i n h =
+    let p : i + 1 ≡ suc i = omega arith in
+    rw (slice-cons i (i + suc n) l 0 (omega arith) h, ← p, reads-slice l i 1 n (i + suc n) (omega arith) h)
+
+-- All the bytes of an array, stored one after the other
+pub array-pasted : (out : List ℕ) (to : ℕ) (b : List ℕ) (n : ℕ) → length b ≡ suc n → to + suc n ≤ length out → stored (set out to (getD b 0 0)) to 1 (reads b 0 1 n) ≡ pasted out to b
+array-pasted out to b n l h =
+    let e : 0 + suc n ≡ length b = omega arith in
+    let q : getD b 0 0 ∷ reads b 0 1 n ≡ b = read-slice b 0 n (omega arith) ∙ rw (e, take-length) in
+    stored-pasted out to _ _ (omega (arith, ap length q)) ∙ ap (pasted out to) q
+
 module _ (out : List ℕ) (at : ℕ) (bytes : List ℕ) where
   pub copied-length : (a e : ℕ) → length (copied out at bytes a e) ≡ length out
   unfolding copied
   copied-length a e = pasted-length _ _ _
+
+  -- The n bytes from a on, read and then stored
+  pub part-copied : {o b : List ℕ} (a n e : ℕ) → a + n ≡ e → b ≡ slice a (a + n) bytes → o ≡ pasted out (at + a) b → o ≡ copied out at bytes a e
+  unfolding copied
+  part-copied a n e h q p = p ∙ rw (q, h)
 
   pub copied-all : {o : List ℕ} (e : ℕ) → e ≡ length bytes → o ≡ copied out at bytes 0 e → o ≡ pasted out at bytes
   unfolding copied
@@ -38,14 +56,10 @@ module _ (out : List ℕ) (at : ℕ) (bytes : List ℕ) (fits : at + length byte
   unfolding copied
   copied-none a h = rw slice-empty (sym (pasted-none out (at + a) (omega arith)))
 
-  -- The byte at i is read and stored, and n others behind it
-  pub block-copied : (i n : ℕ) → i + suc n ≤ length bytes → stored (set out (at + i) (getD bytes i 0)) (at + i) 1 (reads bytes i 1 n) ≡ copied out at bytes i (i + suc n)
+  -- One byte
+  pub byte-copied : (i : ℕ) → i < length bytes → set out (at + i) (getD bytes i 0) ≡ copied out at bytes i (i + 1)
   unfolding copied
-  block-copied i n h =
-      let p : i + 1 ≡ suc i = omega arith in
-      let q : getD bytes i 0 ∷ reads bytes i 1 n ≡ slice i (i + suc n) bytes =
-      rw (slice-cons i (i + suc n) bytes 0 (omega arith) h, ← p, reads-slice bytes i 1 n (i + suc n) (omega arith) h) in
-      stored-pasted out (at + i) _ _ (omega (arith, ap length q, length-slice i (i + suc n) bytes h)) ∙ ap (pasted out (at + i)) q
+  byte-copied i h = set-pasted out (at + i) _ (omega arith) ∙ ap (pasted out (at + i)) (read-slice bytes i 0 (omega arith))
 
   -- The bytes up to i are stored, and then those up to e
   pub copied-on : {o o₁ : List ℕ} (a i e : ℕ) → a ≤ i → i ≤ e → e ≤ length bytes → o ≡ copied out at bytes a i → o₁ ≡ copied o at bytes i e → o₁ ≡ copied out at bytes a e

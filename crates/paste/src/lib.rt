@@ -2,6 +2,7 @@
 ghost use Prim.Native.Nat.{_+_, _-_, _*_, _%_, _≤_};
 ghost use mathlib.Core.Path.{_≡_};
 ghost use lib.ListN.{length};
+ghost use lib.Seq.{slice};
 ghost use Rattle.paste.specs.Pasted.{pasted};
 ghost use Rattle.paste.specs.Private.{copied};
 
@@ -82,23 +83,11 @@ fn copy_eight(out: &mut [u8], at: usize, bytes: &[u8], i: usize)
     requires { ⌜ (at + length (now bytes) ≤ length (now out)) × (i + 8 ≤ length (now bytes)) ⌝ }
     ensures { λ r. ⌜ now (out .exit) ≡ copied (now (out .entry)) at (now (bytes .entry)) i (i + 8) ⌝ }
 {
-    let b0 = bytes[i];
-    let b1 = bytes[i + 1];
-    let b2 = bytes[i + 2];
-    let b3 = bytes[i + 3];
-    let b4 = bytes[i + 4];
-    let b5 = bytes[i + 5];
-    let b6 = bytes[i + 6];
-    let b7 = bytes[i + 7];
-    let to = at + i;
-    out[to] = b0;
-    out[to + 1] = b1;
-    out[to + 2] = b2;
-    out[to + 3] = b3;
-    out[to + 4] = b4;
-    out[to + 5] = b5;
-    out[to + 6] = b6;
-    out[to + 7] = b7;
+    let j = i + 4;
+    let x = four_at(bytes, i);
+    let y = four_at(bytes, j);
+    put_four(out, at + i, x);
+    put_four(out, at + j, y)
 }
 
 // Stores the first four bytes and the last four, which together are all of them.
@@ -116,13 +105,24 @@ fn copy_four(out: &mut [u8], at: usize, bytes: &[u8], i: usize)
     requires { ⌜ (at + length (now bytes) ≤ length (now out)) × (i + 4 ≤ length (now bytes)) ⌝ }
     ensures { λ r. ⌜ now (out .exit) ≡ copied (now (out .entry)) at (now (bytes .entry)) i (i + 4) ⌝ }
 {
-    let b0 = bytes[i];
-    let b1 = bytes[i + 1];
-    let b2 = bytes[i + 2];
-    let b3 = bytes[i + 3];
-    let to = at + i;
-    out[to] = b0;
-    out[to + 1] = b1;
-    out[to + 2] = b2;
-    out[to + 3] = b3;
+    put_four(out, at + i, four_at(bytes, i))
+}
+
+// The four bytes from i on.
+fn four_at(bytes: &[u8], i: usize) -> [u8; 4]
+    requires { ⌜ i + 4 ≤ length (now bytes) ⌝ }
+    ensures { λ r. ⌜ r ≡ slice i (i + 4) (now (bytes .entry)) ⌝ }
+{
+    [bytes[i], bytes[i + 1], bytes[i + 2], bytes[i + 3]]
+}
+
+// Stores four bytes from a place on.
+fn put_four(out: &mut [u8], to: usize, b: [u8; 4])
+    requires { ⌜ to + 4 ≤ length (now out) ⌝ }
+    ensures { λ r. ⌜ now (out .exit) ≡ pasted (now (out .entry)) to b ⌝ }
+{
+    out[to] = b[0];
+    out[to + 1] = b[1];
+    out[to + 2] = b[2];
+    out[to + 3] = b[3];
 }

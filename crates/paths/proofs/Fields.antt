@@ -15,20 +15,20 @@ use Rattle.layout.specs.Entities.{Entity, entityKinds, CustomSql, Function, Pos
 use Rattle.layout.specs.Answers.{limit}
 use Rattle.layout.proofs.InBytes.{behind, bytesOf-append, four-complete}
 use Rattle.layout.proofs.Tables.{known-outside}
-use Rattle.leaf.specs.State.{lengthAt}
-use Rattle.leaf.proofs.Leaves.{length-there}
+use Rattle.bytes.specs.Bytes.{numberOr0}
+use Rattle.bytes.proofs.Number.{number-there}
 use Rattle.section.specs.Derivation.{Item, sentinel, entity, payload, ProperItem}
 use Rattle.paths.specs.Paths.{fullPathFields, fieldOf, textOf, fullPath}
 use Rattle.paths.specs.Theorems.{PathText, Path-text}
 use Rattle.paths.specs.Private.{textFrom, Field, T, N, behindField, behindFields, fieldsBefore, placeBy, pathPlace, textUnless0, pathAt, TextIn, PayloadIn}
 
 -- A length that stands at a place
-length-stands : (s : List ℕ) (at n : ℕ) (r : List ℕ) → n < 4294967296 → drop at s ≡ four n ++ r → (at + 4 ≤ length s) × (lengthAt s at ≡ n)
+length-stands : (s : List ℕ) (at n : ℕ) (r : List ℕ) → n < 4294967296 → drop at s ≡ four n ++ r → (at + 4 ≤ length s) × (numberOr0 s at ≡ n)
 length-stands s at n r h e =
     let d : drop (at + 4) s ≡ r = behind s at (four n) r e in
     let (l, k) = four-complete s at (at + 4) n h (rw d e) in
     let i : at + 4 ≤ length s = leb-true (at + 4) (length s) l in
-    (i, length-there s at i ∙ k)
+    (i, number-there s at i ∙ k)
 
 -- A leaf is a field of its sort
 data IsField : Field → Leaf → Type 0 where
@@ -64,9 +64,9 @@ placeBy-outside : (rows : List (ℕ × List Field)) (s : List ℕ) (n at : ℕ) 
 placeBy-outside [] s n at h = refl
 placeBy-outside (row ∷ rows) s n at h = rw (ne-eqb n (row .0) (h .0)) (placeBy-outside rows s n at (h .1))
 
-pub place-none : (s : List ℕ) (at : ℕ) → Outside fieldsBefore (getD s at 0) → pathPlace s at ≡ 0
+pub place-none : (s : List ℕ) (at kind : ℕ) → kind ≡ getD s at 0 → Outside fieldsBefore kind → pathPlace s at ≡ 0
 unfolding pathPlace
-place-none s at h = placeBy-outside fieldsBefore s (getD s at 0) (at + 1) h
+place-none s at kind e h = rw (← e) (placeBy-outside fieldsBefore s kind (at + 1) h)
 
 -- A payload stands at a place, and its full_path is as given
 pub record Found (s : List ℕ) (at : ℕ) (ts : List (List ℕ)) : Type 0 where
@@ -99,7 +99,7 @@ text-stands s at t r h e =
 
 behind-later : (s : List ℕ) (fs : List Field) (at : ℕ) → at ≤ behindFields s fs at
 behind-later s [] at = omega arith
-behind-later s (T ∷ fs) at = omega (arith, behind-later s fs (at + 4 + lengthAt s at))
+behind-later s (T ∷ fs) at = omega (arith, behind-later s fs (at + 4 + numberOr0 s at))
 behind-later s (N ∷ fs) at = omega (arith, behind-later s fs (at + 4))
 
 -- The leaves behind an entity's kind, cut at its full_path
@@ -138,9 +138,11 @@ cut-kind (suc (suc zero)) b k p =
 cut-kind (suc (suc (suc zero))) b k p =
     cut (record { fields = T ∷ T ∷ T ∷ []; before = string (b .0) ∷ string (b .1 .0) ∷ string (b .1 .1 .0) ∷ []; text = b .1 .1 .1 .0; after = drop 4 (leaves Function b); are = more (a-text (p .0 .1)) (more (a-text (p .1 .0 .1)) (more (a-text (p .1 .1 .0 .1)) none)); fits = p .1 .1 .1 .0 .1; stands = refl; place = λ s at. refl; field = refl })
 cut-kind (suc (suc (suc (suc zero)))) b k p =
-    cut (record { fields = T ∷ T ∷ N ∷ T ∷ []; before = string (b .0) ∷ string (b .1 .0) ∷ plain Number (b .1 .1 .0) ∷ string (b .1 .1 .1 .0) ∷ []; text = b .1 .1 .1 .1 .0; after = drop 5 (leaves PostgresType b); are = more (a-text (p .0 .1)) (more (a-text (p .1 .0 .1)) (more a-number (more (a-text (p .1 .1 .1 .0 .1)) none))); fits = p .1 .1 .1 .1 .0 .1; stands = refl; place = λ s at. refl; field = refl })
+    cut (record
+    { fields = T ∷ T ∷ N ∷ T ∷ []; before = string (b .0) ∷ string (b .1 .0) ∷ plain Number (b .1 .1 .0) ∷ string (b .1 .1 .1 .0) ∷ []; text = b .1 .1 .1 .1 .0; after = drop 5 (leaves PostgresType b); are = more (a-text (p .0 .1)) (more (a-text (p .1 .0 .1)) (more a-number (more (a-text (p .1 .1 .1 .0 .1)) none))); fits = p .1 .1 .1 .1 .0 .1; stands = refl; place = λ s at. refl; field = refl })
 cut-kind (suc (suc (suc (suc (suc zero))))) b k p =
-    cut (record { fields = T ∷ T ∷ N ∷ T ∷ []; before = string (b .0) ∷ string (b .1 .0) ∷ plain Number (b .1 .1 .0) ∷ string (b .1 .1 .1 .0) ∷ []; text = b .1 .1 .1 .1 .0; after = drop 5 (leaves PostgresEnum b); are = more (a-text (p .0 .1)) (more (a-text (p .1 .0 .1)) (more a-number (more (a-text (p .1 .1 .1 .0 .1)) none))); fits = p .1 .1 .1 .1 .0 .1; stands = refl; place = λ s at. refl; field = refl })
+    cut (record
+    { fields = T ∷ T ∷ N ∷ T ∷ []; before = string (b .0) ∷ string (b .1 .0) ∷ plain Number (b .1 .1 .0) ∷ string (b .1 .1 .1 .0) ∷ []; text = b .1 .1 .1 .1 .0; after = drop 5 (leaves PostgresEnum b); are = more (a-text (p .0 .1)) (more (a-text (p .1 .0 .1)) (more a-number (more (a-text (p .1 .1 .1 .0 .1)) none))); fits = p .1 .1 .1 .1 .0 .1; stands = refl; place = λ s at. refl; field = refl })
 cut-kind (suc (suc (suc (suc (suc (suc zero)))))) b k p =
     cut (record { fields = T ∷ T ∷ N ∷ []; before = string (b .0) ∷ string (b .1 .0) ∷ plain Number (b .1 .1 .0) ∷ []; text = b .1 .1 .1 .0; after = drop 4 (leaves OrdOrHash b); are = more (a-text (p .0 .1)) (more (a-text (p .1 .0 .1)) (more a-number none)); fits = p .1 .1 .1 .0 .1; stands = refl; place = λ s at. refl; field = refl })
 cut-kind (suc (suc (suc (suc (suc (suc (suc zero))))))) b k p =
@@ -148,7 +150,8 @@ cut-kind (suc (suc (suc (suc (suc (suc (suc zero))))))) b k p =
 cut-kind (suc (suc (suc (suc (suc (suc (suc (suc zero)))))))) b k p =
     cut (record { fields = []; before = []; text = b .0; after = drop 1 (leaves Aggregate b); are = none; fits = p .0 .1; stands = refl; place = λ s at. refl; field = refl })
 cut-kind (suc (suc (suc (suc (suc (suc (suc (suc (suc zero))))))))) b k p =
-    cut (record { fields = T ∷ T ∷ N ∷ T ∷ []; before = string (b .0) ∷ string (b .1 .0) ∷ plain Number (b .1 .1 .0) ∷ string (b .1 .1 .1 .0) ∷ []; text = b .1 .1 .1 .1 .0; after = drop 5 (leaves Trigger b); are = more (a-text (p .0 .1)) (more (a-text (p .1 .0 .1)) (more a-number (more (a-text (p .1 .1 .1 .0 .1)) none))); fits = p .1 .1 .1 .1 .0 .1; stands = refl; place = λ s at. refl; field = refl })
+    cut (record
+    { fields = T ∷ T ∷ N ∷ T ∷ []; before = string (b .0) ∷ string (b .1 .0) ∷ plain Number (b .1 .1 .0) ∷ string (b .1 .1 .1 .0) ∷ []; text = b .1 .1 .1 .1 .0; after = drop 5 (leaves Trigger b); are = more (a-text (p .0 .1)) (more (a-text (p .1 .0 .1)) (more a-number (more (a-text (p .1 .1 .1 .0 .1)) none))); fits = p .1 .1 .1 .1 .0 .1; stands = refl; place = λ s at. refl; field = refl })
 cut-kind (suc (suc (suc (suc (suc (suc (suc (suc (suc (suc n)))))))))) b k p = absurd (kind-above (suc (suc (suc (suc (suc (suc (suc (suc (suc (suc n)))))))))) (omega arith) k)
 
 -- The text behind some leaves

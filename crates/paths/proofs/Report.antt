@@ -9,26 +9,29 @@ use Rattle.layout.specs.Answers.{Result, wholeRows}
 use Rattle.layout.specs.Theorems.{Bytes}
 use Rattle.layout.proofs.Walk.{all-ok}
 use Rattle.layout.proofs.Alone.{never-accepts, only-thirteen}
-use Rattle.leaf.specs.Finish.{answerOf, resultOf}
-use Rattle.leaf.specs.declared.Answer.the-variants.{Accepted, Refused}
+use Rattle.table.specs.Answers.{answerOf, resultOf, counted, uncounted}
+use Rattle.table.specs.declared.Answer.the-variants.{Accepted, Refused}
+use Rattle.table.specs.declared.Refusal.{Refusal}
 use Rattle.section.specs.Derivation.{Derivation, Placed, totalLeaves, givenOf, entitiesOf}
 use Rattle.section.specs.Section.{readSection, reading}
 use Rattle.section.specs.Demand3.{Good}
 use Rattle.section.proofs.Section.{section-complete, section-sound}
 use Rattle.section.proofs.Refusals.{refusal-exact}
+use Rattle.section.specs.Rest.{Rest}
 use Rattle.section.proofs.Demand3.{refusal-numbered}
-use Rattle.paths.specs.Paths.{paths, pairs, counted, refused, report}
+use Rattle.section.proofs.Rest.{rest-whole}
+use Rattle.paths.specs.Paths.{paths, pairs, report}
 use Rattle.paths.specs.Theorems.{Report-exact, Report-numbered}
-use Rattle.paths.specs.Private.{Rest, Counts}
+use Rattle.paths.specs.Private.{Counts}
 use Rattle.layout.specs.Answers as answers
-use Rattle.leaf.specs.declared.Answer as declared
+use Rattle.table.specs.declared.Answer as declared
 
 report-derived : (s : List ℕ) (d : Derivation) → Good s d → report s ≡ counted (pairs (paths (entitiesOf d)))
 unfolding report
 report-derived s d g = rw (section-complete s d g)
 
 module _ (s : List ℕ) (n p : ℕ) (e : readSection s ≡ refuse n p) where
-  report-refused : report s ≡ refused n p
+  report-refused : report s ≡ uncounted n p
   unfolding report
   report-refused = rw e
 
@@ -41,10 +44,6 @@ derived-thirteen : (s : List ℕ) (es : List Placed) (end : ℕ) → readSection
 unfolding reading
 derived-thirteen s es end e table n p q = only-thirteen (leb (totalLeaves es) (wholeRows table)) (givenOf es) table n p (rw e at q)
 
--- The whole section
-abbrev whole : (s : List ℕ) (d : Derivation) → Good s d → Rest s 0
-whole s d g = record { small = g .small; inside = omega arith; derivation = d; by = g .by }
-
 pub report-exact : Report-exact
 report-exact s u = (report-derived s, λ n p r. report-refused s n p (refusal-exact s u n p .1 r))
 
@@ -54,18 +53,18 @@ report-numbered s u n p q = go (readSection s) refl
   where
     go : (m : Outcome ℕ (List Placed)) → readSection s ≡ m → (1 ≤ n) × (n ≤ 12)
     go (ok es end) e =
-        let k : counted (pairs (paths es)) ≡ refused n p = rw e at q in
+        let k : counted (pairs (paths es)) ≡ uncounted n p = rw e at q in
         let z : _≡_ {A = ℕ} 0 1 = cc in
         absurd (omega arith)
     go (refuse m t) e =
-        let k : refused m t ≡ refused n p = rw e at q in
+        let k : uncounted m t ≡ uncounted n p = rw e at q in
         let j : m ≡ n = cc in
         rw (← j) (refusal-numbered s m t (refusal-exact s u m t .0 e))
 
 -- No refusal of 1 to 12 is met
 abbrev pub Passes : declared.Answer → Type 0
 Passes (Accepted entities rows) = Unit {0}
-Passes (Refused number place) = number ≡ 13
+Passes (Refused refusal) = refusal .number ≡ 13
 
 -- From the answer r of the reading through any table
 module _ (s : List ℕ) (u : Bytes s) (table after : List ℕ) (r : declared.Answer) (e : resultOf r after ≡ reading s table) where
@@ -79,23 +78,23 @@ module _ (s : List ℕ) (u : Bytes s) (table after : List ℕ) (r : declared.Ans
       go (ok es end) k v q h = let d = all-ok (section-sound s u) k in (d .0, d .1)
       go (refuse n p) k (Accepted entities rows) q h =
           never-accepts (sym q ∙ answer-is s n p k table)
-      go (refuse n p) k (Refused number place) q h =
-          let j : n ≡ number = ap (λ (a : answers.Answer). a .number) (sym (answer-is s n p k table) ∙ q) in
+      go (refuse n p) k (Refused refusal) q h =
+          let j : n ≡ refusal .number = ap (λ (a : answers.Answer). a .number) (sym (answer-is s n p k table) ∙ q) in
           absurd (omega (arith, refusal-numbered s n p (refusal-exact s u n p .0 k)))
 
   pub passed : (v : declared.Answer) → r ≡ v → Passes v → Rest s 0
-  passed v q h = let (d, g) = derived v q h in whole s d g
+  passed v q h = let (d, g) = derived v q h in rest-whole s d g
 
   pub report-passed : (v : declared.Answer) → r ≡ v → Passes v → (n : ℕ) → Counts s 0 n → counted n ≡ report s
-  report-passed v q h n k = let (d, g) = derived v q h in ap counted (k (whole s d g)) ∙ sym (report-derived s d g)
+  report-passed v q h n k = let (d, g) = derived v q h in ap counted (k (rest-whole s d g)) ∙ sym (report-derived s d g)
 
-  pub report-stopped : (n p : ℕ) → r ≡ Refused n p → (n ≡ 13 → ⊥) → refused n p ≡ report s
-  report-stopped n p q h = go (readSection s) refl
+  pub report-stopped : (x : Refusal) → r ≡ Refused x → (x .number ≡ 13 → ⊥) → uncounted (x .number) (x .place) ≡ report s
+  report-stopped x q h = go (readSection s) refl
     where
-      go : (m : Outcome ℕ (List Placed)) → readSection s ≡ m → refused n p ≡ report s
-      go (ok es end) k = absurd (h (derived-thirteen s es end k table n p (answer-read (Refused n p) q)))
+      go : (m : Outcome ℕ (List Placed)) → readSection s ≡ m → uncounted (x .number) (x .place) ≡ report s
+      go (ok es end) k = absurd (h (derived-thirteen s es end k table (x .number) (x .place) (answer-read (Refused x) q)))
       go (refuse m t) k =
-          let e = sym (answer-read (Refused n p) q) ∙ answer-is s m t k table in
-          let i : n ≡ m = ap (λ (a : answers.Answer). a .number) e in
-          let j : p ≡ t = ap (λ (a : answers.Answer). a .place) e in
+          let e = sym (answer-read (Refused x) q) ∙ answer-is s m t k table in
+          let i : x .number ≡ m = ap (λ (a : answers.Answer). a .number) e in
+          let j : x .place ≡ t = ap (λ (a : answers.Answer). a .place) e in
           rw (i, j) (sym (report-refused s m t k))

@@ -1,46 +1,25 @@
 -- The rest of a section from a boundary on, entry after entry.
 use Prim.Native.Nat.{ℕ, zero, suc, _+_, _*_, _≤_}
-use native.Mathlib.Nat.{add-zero}
 use native.Mathlib.Omega.{arith}
-use mathlib.Core.Bool.{Bool, true, false, cond}
-use mathlib.Core.List.{List, [], _∷_, _++_, append-assoc}
+use mathlib.Core.Bool.{false}
+use mathlib.Core.List.{List, [], _∷_, _++_}
 use mathlib.Core.Path.{_≡_, refl, sym, ap, _∙_}
-use lib.ListN.{length, getD, take, drop, replicate, length-drop}
-use lib.Seq.{getD-drop, length-take-le}
-use Rattle.layout.specs.Reading.{enough}
+use lib.ListN.{length, take, drop, length-drop}
+use lib.Seq.{length-take-le}
 use Rattle.layout.specs.Answers.{limit}
-use Rattle.leaf.specs.State.{lengthAt}
-use Rattle.leaf.proofs.Leaves.{length-there}
-use Rattle.section.specs.Derivation.{Item, sentinel, entity, Derivation, payload, entries, ProperItems, placed}
-use Rattle.section.specs.Section.{same}
-use Rattle.section.proofs.Derivation.{payload-some, payload-small, derivation-unique}
+use Rattle.bytes.specs.Bytes.{numberOr0, same}
+use Rattle.bytes.proofs.Compared.{same-sound}
+use Rattle.section.specs.Derivation.{Item, sentinel, entity, Derivation, payload, placed}
+use Rattle.section.specs.Rest.{Rest}
+use Rattle.section.proofs.Rest.{rest-unique, rest-first, rest-none}
 use Rattle.layout.proofs.BadReads.{not-true}
-use Rattle.section.proofs.Framing.{entry-at}
-use Rattle.section.proofs.Section.{same-sound}
 use Rattle.paths.specs.Paths.{paths, equals, pairs}
-use Rattle.paths.specs.Private.{textFrom, pathPlace, textUnless0, pathAt, Rest, pathsOf, TextIn, PayloadIn, pairsWith, Counts, CountsWith}
+use Rattle.paths.specs.Private.{textFrom, pathPlace, textUnless0, pathAt, pathsOf, TextIn, PayloadIn, pairsWith, Counts, CountsWith}
 use Rattle.paths.proofs.Fields.{itemPath, found-item}
 
--- The rest has one derivation
-rest-unique : {s : List ℕ} {at : ℕ} (w x : Rest s at) → pathsOf w ≡ pathsOf x
-rest-unique {s} {at} w x = ap (λ (d : Derivation). paths (placed at (d .items))) (derivation-unique (drop at s) (w .derivation) (x .derivation) (w .by) (x .by))
-
--- In padding the length is 0
-zero-at : (m k : ℕ) → _≡_ {A = ℕ} (getD (replicate m 0) k 0) 0
-zero-at zero k = refl
-zero-at (suc m) zero = refl
-zero-at (suc m) (suc k) = zero-at m k
-
-cond-same : (b : Bool) → _≡_ {A = ℕ} (cond b 0 0) 0
-cond-same true = refl
-cond-same false = refl
-
-padding-length : (s : List ℕ) (at m : ℕ) → replicate m 0 ≡ drop at s → lengthAt s at ≡ 0
-unfolding lengthAt
-padding-length s at m e =
-    let z : (i : ℕ) → _≡_ {A = ℕ} (getD s (at + i) 0) 0 = λ i. sym (getD-drop at s i 0) ∙ ap (λ (l : List ℕ). getD l i 0) (sym e) ∙ zero-at m i in
-    let z₀ : _≡_ {A = ℕ} (getD s at 0) 0 = rw add-zero at (z 0) in
-    rw (z₀, z 1, z 2, z 3) (cond-same (enough s at 4))
+-- The texts of the rest are those of its one derivation
+paths-unique : {s : List ℕ} {at : ℕ} (w x : Rest s at) → pathsOf w ≡ pathsOf x
+paths-unique {s} {at} w x = ap (λ (d : Derivation). paths (placed at (d .items))) (rest-unique w x)
 
 -- An entry at a boundary: its payload, the rest behind it, and the texts of both
 pub record Step (s : List ℕ) (at size : ℕ) (ts : List (List ℕ)) : Type 0 where
@@ -52,46 +31,36 @@ item-paths : (at : ℕ) (i : Item) (is : List Item) → paths (placed at (i ∷ 
 item-paths at sentinel is = refl
 item-paths at (entity v) is = refl
 
-step-items : (s : List ℕ) (at : ℕ) → length s ≤ limit → at ≤ length s → (m : ℕ) (is : List Item) → ProperItems is → entries is ++ replicate m 0 ≡ drop at s
-    → (size : ℕ) → size ≡ lengthAt s at → (size ≡ 0 → ⊥) → Step s at size (paths (placed at is))
-step-items s at h k m [] p e size l n = absurd (n (l ∙ padding-length s at m e))
-step-items s at h k m (i ∷ is) p e size l n =
-    let a = entry-at s at (payload i) (entries is ++ replicate m 0) k (payload-some i) (payload-small i (p .0)) (simp append-assoc at (sym e)) in
-    let q : size ≡ length (payload i) = l ∙ length-there s at (omega (arith, a .inside)) ∙ a .number in
-    let f = found-item i (p .0) s (at + 4) (entries is ++ replicate m 0) h (a .payload) in
-    rw q
-    (record {
-      payload-in = f .inside;
-      rest = record { small = h; inside = a .inside; derivation = record { items = is; padding = m }; by = record { proper = p .1; derives = sym (a .behind) } };
-      texts = item-paths at i is ∙ rw (f .path);
-    })
-
-end-items : (s : List ℕ) (at : ℕ) → at ≤ length s → (m : ℕ) (is : List Item) → ProperItems is → entries is ++ replicate m 0 ≡ drop at s → lengthAt s at ≡ 0 → paths (placed at is) ≡ []
-end-items s at k m [] p e n = refl
-end-items s at k m (i ∷ is) p e n =
-    let a = entry-at s at (payload i) (entries is ++ replicate m 0) k (payload-some i) (payload-small i (p .0)) (simp append-assoc at (sym e)) in
-    let q : lengthAt s at ≡ length (payload i) = length-there s at (omega (arith, a .inside)) ∙ a .number in
-    absurd (omega (arith, payload-some i))
-
 module _ {s : List ℕ} {at : ℕ} (w : Rest s at) where
-  rest-step : (size : ℕ) → size ≡ lengthAt s at → (size ≡ 0 → ⊥) → Step s at size (pathsOf w)
-  rest-step = step-items s at (w .small) (w .inside) (w .derivation .padding) (w .derivation .items) (w .by .proper) (w .by .derives)
+  rest-step : (size : ℕ) → size ≡ numberOr0 s at → (size ≡ 0 → ⊥) → Step s at size (pathsOf w)
+  rest-step size l n =
+      let x = rest-first w size l n in
+      let f = found-item (x .item) (x .proper) s (at + 4) (x .after) (w .small) (x .there) in
+      record {
+        payload-in = f .inside;
+        rest = x .rest;
+        texts =
+            ap (λ (is : List Item). paths (placed at is)) (x .items) ∙ item-paths at (x .item) (x .others)
+            ∙ ap (λ (us : List (List ℕ)). itemPath (x .item) ++ us)
+            (ap (λ (n : ℕ). paths (placed (at + 4 + n) (x .others))) (sym (x .sized)) ∙ ap (λ (is : List Item). paths (placed (at + 4 + size) is)) (sym (x .left)))
+            ∙ ap (λ (ts : List (List ℕ)). ts ++ pathsOf (x .rest)) (sym (f .path));
+      }
 
-  rest-end : lengthAt s at ≡ 0 → pathsOf w ≡ []
-  rest-end = end-items s at (w .inside) (w .derivation .padding) (w .derivation .items) (w .by .proper) (w .by .derives)
+  rest-end : numberOr0 s at ≡ 0 → pathsOf w ≡ []
+  rest-end z = ap (λ (is : List Item). paths (placed at is)) (rest-none w z)
 
 -- Texts at two places
-text-length : (s : List ℕ) (at : ℕ) → TextIn s at → length (textFrom s at) ≡ lengthAt s at
+text-length : (s : List ℕ) (at : ℕ) → TextIn s at → length (textFrom s at) ≡ numberOr0 s at
 unfolding textFrom
-text-length s at h = length-take-le (lengthAt s at) (drop (at + 4) s) (omega (arith, h .ends, length-drop (at + 4) s))
+text-length s at h = length-take-le (numberOr0 s at) (drop (at + 4) s) (omega (arith, h .ends, length-drop (at + 4) s))
 
 module _ (s : List ℕ) (a b : ℕ) where
-  pub text-other : TextIn s a → TextIn s b → (lengthAt s a ≡ lengthAt s b → ⊥) → same (textFrom s a) (textFrom s b) ≡ false
+  pub text-other : TextIn s a → TextIn s b → (numberOr0 s a ≡ numberOr0 s b → ⊥) → same (textFrom s a) (textFrom s b) ≡ false
   text-other h k n = not-true _ λ e.
       let q : textFrom s a ≡ textFrom s b = same-sound (textFrom s a) (textFrom s b) e in
       n (sym (text-length s a h) ∙ ap length q ∙ text-length s b k)
 
-  pub text-parts : (n m k : ℕ) → n ≡ lengthAt s a → n ≡ lengthAt s b → m ≡ n → k ≡ n → same (take m (drop (a + 4) s)) (take k (drop (b + 4) s)) ≡ same (textFrom s a) (textFrom s b)
+  pub text-parts : (n m k : ℕ) → n ≡ numberOr0 s a → n ≡ numberOr0 s b → m ≡ n → k ≡ n → same (take m (drop (a + 4) s)) (take k (drop (b + 4) s)) ≡ same (textFrom s a) (textFrom s b)
   unfolding textFrom
   text-parts n m k e f g h = rw (g, h, ← e, ← f)
 
@@ -121,19 +90,19 @@ equals-append t (u ∷ us) vs = rw (equals-append t us vs) (omega arith)
 pub record Later (s : List ℕ) (next path at count size : ℕ) : Type 0 where
   pub text : TextIn s path
   pub rest : Rest s at
-  pub length-is : size ≡ lengthAt s at
+  pub length-is : size ≡ numberOr0 s at
   pub bound : count ≤ at
   pub sum : (w : Rest s next) → equals (textFrom s path) (pathsOf w) ≡ count + equals (textFrom s path) (pathsOf rest)
 
-pub later-holds : {s : List ℕ} {next path : ℕ} → TextIn s path → Rest s next → (size : ℕ) → size ≡ lengthAt s next → Later s next path next 0 size
+pub later-holds : {s : List ℕ} {next path : ℕ} → TextIn s path → Rest s next → (size : ℕ) → size ≡ numberOr0 s next → Later s next path next 0 size
 later-holds {s} {next} {path} t w size e =
-    record { text = t; rest = w; length-is = e; bound = omega arith; sum = λ x. omega (arith, ap (equals (textFrom s path)) (rest-unique x w)) }
+    record { text = t; rest = w; length-is = e; bound = omega arith; sum = λ x. omega (arith, ap (equals (textFrom s path)) (paths-unique x w)) }
 
 module _ {s : List ℕ} {next path at count size : ℕ} (l : Later s next path at count size) where
   pub later-step : (size ≡ 0 → ⊥) → Step s at size (pathsOf (l .rest))
   later-step n = rest-step (l .rest) size (l .length-is) n
 
-  pub later-again : (size ≡ 0 → ⊥) → (more new : ℕ) → more ≡ equals (textFrom s path) (pathAt s (at + 4)) → more ≤ 1 → new ≡ lengthAt s (at + 4 + size)
+  pub later-again : (size ≡ 0 → ⊥) → (more new : ℕ) → more ≡ equals (textFrom s path) (pathAt s (at + 4)) → more ≤ 1 → new ≡ numberOr0 s (at + 4 + size)
       → Later s next path (at + 4 + size) (count + more) new
   later-again n more new e h k =
       let t = later-step n in
@@ -159,12 +128,12 @@ none-counted s begin next place e z = record { small = omega arith; counts = λ 
 -- So many pairs of the entries before a boundary with those behind them
 pub record Before (s : List ℕ) (at count size : ℕ) : Type 0 where
   pub rest : Rest s at
-  pub length-is : size ≡ lengthAt s at
+  pub length-is : size ≡ numberOr0 s at
   pub bound : count ≤ limit * at
   pub sum : (w : Rest s 0) → pairs (pathsOf w) ≡ count + pairs (pathsOf rest)
 
-pub before-holds : {s : List ℕ} → Rest s 0 → (size : ℕ) → size ≡ lengthAt s 0 → Before s 0 0 size
-before-holds w size e = record { rest = w; length-is = e; bound = omega arith; sum = λ x. omega (arith, ap pairs (rest-unique x w)) }
+pub before-holds : {s : List ℕ} → Rest s 0 → (size : ℕ) → size ≡ numberOr0 s 0 → Before s 0 0 size
+before-holds w size e = record { rest = w; length-is = e; bound = omega arith; sum = λ x. omega (arith, ap pairs (paths-unique x w)) }
 
 pairs-append : (s : List ℕ) (begin : ℕ) (us : List (List ℕ)) → pairs (pathAt s begin ++ us) ≡ pairsWith (pathAt s begin) us + pairs us
 unfolding pathAt
@@ -178,7 +147,7 @@ module _ {s : List ℕ} {at count size : ℕ} (l : Before s at count size) where
   pub before-step : (size ≡ 0 → ⊥) → Step s at size (pathsOf (l .rest))
   before-step n = rest-step (l .rest) size (l .length-is) n
 
-  pub before-again : (size ≡ 0 → ⊥) → (more new : ℕ) → CountsWith s (at + 4) (at + 4 + size) more → new ≡ lengthAt s (at + 4 + size) → Before s (at + 4 + size) (count + more) new
+  pub before-again : (size ≡ 0 → ⊥) → (more new : ℕ) → CountsWith s (at + 4) (at + 4 + size) more → new ≡ numberOr0 s (at + 4 + size) → Before s (at + 4 + size) (count + more) new
   before-again n more new h k =
       let t = before-step n in
       record {

@@ -7,8 +7,10 @@ use lib.ListN.{getD}
 use Rattle.layout.specs.Layout.{Leaf, plain, string}
 use Rattle.layout.specs.Entities.{valueIn}
 use Rattle.layout.specs.Reading.{Outcome, ok, refuse}
+use Rattle.bytes.specs.Bytes.{same}
+use Rattle.table.specs.Answers.{Total, counted, uncounted}
 use Rattle.section.specs.Derivation.{Placed}
-use Rattle.section.specs.Section.{same, readSection}
+use Rattle.section.specs.Section.{readSection}
 use Rattle.paths.specs.declared.PathReport.{PathReport}
 use Rattle.paths.specs.declared.PathReport.the-variants.{Counted, Refused}
 
@@ -59,21 +61,16 @@ abbrev pub pairs : List (List ℕ) → ℕ
 pairs [] = 0
 pairs (t ∷ ts) = equals t ts + pairs ts
 
--- A report: the number of pairs, or a refusal's number and place
-pub data Report : Type 0 where
-  counted : (pairs : ℕ) → Report
-  refused : (number place : ℕ) → Report
-
--- The report on what is read
-abbrev pub reportOn : Outcome ℕ (List Placed) → Report
+-- The report on what is read: the number of pairs, or a refusal
+abbrev pub reportOn : Outcome ℕ (List Placed) → Total
 reportOn (ok es end) = counted (pairs (paths es))
-reportOn (refuse n p) = refused n p
+reportOn (refuse n p) = uncounted n p
 
 -- The report on a section: its refusals of 1 to 12 are the report's
-unfoldable pub report : List ℕ → Report
+unfoldable pub report : List ℕ → Total
 report s = reportOn (readSection s)
 
 -- The number, or number and place, of each case
-abbrev pub reportOf : PathReport → Report
+abbrev pub reportOf : PathReport → Total
 reportOf (Counted n) = counted n
-reportOf (Refused number place) = refused number place
+reportOf (Refused refusal) = uncounted (refusal .number) (refusal .place)

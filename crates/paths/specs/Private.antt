@@ -6,14 +6,14 @@ use mathlib.Core.Path.{_≡_}
 use lib.Dec.{eqb}
 use lib.ListN.{length, getD, take, drop}
 use Rattle.layout.specs.Answers.{limit}
-use Rattle.leaf.specs.State.{lengthAt}
-use Rattle.section.specs.Derivation.{Derivation, placed}
-use Rattle.section.specs.Demand3.{DerivedBy}
+use Rattle.bytes.specs.Bytes.{numberOr0}
+use Rattle.section.specs.Derivation.{placed}
+use Rattle.section.specs.Rest.{Rest}
 use Rattle.paths.specs.Paths.{paths, equals, pairs}
 
 -- The text whose length stands at a place
 unfoldable pub textFrom : List ℕ → ℕ → List ℕ
-textFrom s at = take (lengthAt s at) (drop (at + 4) s)
+textFrom s at = take (numberOr0 s at) (drop (at + 4) s)
 
 -- The field of a text or a number
 pub data Field : Type 0 where
@@ -22,7 +22,7 @@ pub data Field : Type 0 where
 
 -- Behind a field that begins at a place
 abbrev pub behindField : List ℕ → Field → ℕ → ℕ
-behindField s T at = at + 4 + lengthAt s at
+behindField s T at = at + 4 + numberOr0 s at
 behindField s N at = at + 4
 
 -- Behind fields of which the first begins at a place
@@ -61,14 +61,7 @@ textUnless0 s (suc p) = textFrom s (suc p) ∷ []
 unfoldable pub pathAt : List ℕ → ℕ → List (List ℕ)
 pathAt s at = textUnless0 s (pathPlace s at)
 
--- There are not too many bytes, and those from a boundary on are derived
-pub record Rest (s : List ℕ) (at : ℕ) : Type 0 where
-  pub small : length s ≤ limit
-  pub inside : at ≤ length s
-  pub derivation : Derivation
-  pub by : DerivedBy (drop at s) derivation
-
--- The full_path texts of the entities from there on
+-- The full_path texts of the entities from a boundary on
 abbrev pub pathsOf : {s : List ℕ} {at : ℕ} → Rest s at → List (List ℕ)
 pathsOf {s} {at} w = paths (placed at (w .derivation .items))
 
@@ -83,7 +76,7 @@ longest = 4294967300
 -- The text whose length stands at a place is inside s
 pub record TextIn (s : List ℕ) (at : ℕ) : Type 0 where
   pub begins : at + 4 ≤ length s
-  pub ends : at + 4 + lengthAt s at ≤ length s
+  pub ends : at + 4 + numberOr0 s at ≤ length s
 
 -- A payload that begins at a place is inside s, with its full_path if it has one
 pub record PayloadIn (s : List ℕ) (at : ℕ) : Type 0 where

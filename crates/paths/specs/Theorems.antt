@@ -9,7 +9,8 @@ use Rattle.layout.specs.Theorems.{Bytes}
 use Rattle.section.specs.Derivation.{Derivation, entitiesOf}
 use Rattle.section.specs.Refusals.{SectionRefusal}
 use Rattle.section.specs.Demand3.{Good}
-use Rattle.paths.specs.Paths.{fullPathFields, fieldOf, fullPath, paths, pairs, counted, refused, report}
+use Rattle.table.specs.Answers.{counted, uncounted}
+use Rattle.paths.specs.Paths.{fullPathFields, fieldOf, fullPath, paths, pairs, report}
 
 -- Behind as many leaves of an entity as `fullPathFields` has for its kind stands a text, and that is its full_path
 pub record PathText (ls : List Leaf) : Type 0 where
@@ -29,8 +30,8 @@ abbrev pub Report-exact : Type 0
 Report-exact =
     (s : List ℕ) → Bytes s
     → ((d : Derivation) → Good s d → report s ≡ counted (pairs (paths (entitiesOf d))))
-    × ((n p : ℕ) → SectionRefusal s n p → report s ≡ refused n p)
+    × ((n p : ℕ) → SectionRefusal s n p → report s ≡ uncounted n p)
 
 -- A report's refusals are 1 to 12: `report-numbered` in Report.antt
 abbrev pub Report-numbered : Type 0
-Report-numbered = (s : List ℕ) → Bytes s → (n p : ℕ) → report s ≡ refused n p → (1 ≤ n) × (n ≤ 12)
+Report-numbered = (s : List ℕ) → Bytes s → (n p : ℕ) → report s ≡ uncounted n p → (1 ≤ n) × (n ≤ 12)

@@ -1,15 +1,18 @@
 // The path report: how many pairs of entities have the same full_path.
+use table::Answer;
+use table::Refusal;
 ghost use mathlib.Core.List.{[], _∷_};
 ghost use mathlib.Core.Path.{_≡_};
 ghost use Prim.Native.Nat.{_+_, _*_, _<_, _≤_};
-ghost use Rattle.section.specs.Section.{same};
+ghost use Rattle.bytes.specs.Bytes.{same};
+ghost use Rattle.section.specs.Rest.{Rest};
 ghost use Rattle.paths.specs.Paths.{equals, pairs, report, reportOf};
-ghost use Rattle.paths.specs.Private.{textFrom, T, N, behindFields, pathPlace, pathAt, Rest, far, longest, TextIn, PayloadIn, Counts, CountsWith};
+ghost use Rattle.paths.specs.Private.{textFrom, T, N, behindFields, pathPlace, pathAt, far, longest, TextIn, PayloadIn, Counts, CountsWith};
 
-// The number of pairs, or the number and the place of a section's refusal.
+// The number of pairs, or a section's refusal.
 pub enum PathReport {
     Counted { pairs: u64 },
-    Refused { number: u32, place: usize },
+    Refused(Refusal),
 }
 
 // The number of unordered pairs of entities with the same full_path bytes, or the section's refusal of 1 to 12. The section is
@@ -20,15 +23,15 @@ pub fn path_report(section: &[u8]) -> PathReport
     let mut none: [u32; 0] = [];
     let answer = section::decode_entities(section, &mut none);
     match answer {
-        leaf::Answer::Accepted {
+        Answer::Accepted {
             entities: _,
             rows: _,
         } => PathReport::Counted {
             pairs: count_pairs(section),
         },
-        leaf::Answer::Refused { number, place } => {
-            if number != 13 {
-                return PathReport::Refused { number, place };
+        Answer::Refused(refusal) => {
+            if refusal.number != 13 {
+                return PathReport::Refused(refusal);
             }
             PathReport::Counted {
                 pairs: count_pairs(section),
@@ -44,12 +47,12 @@ fn count_pairs(s: &[u8]) -> u64
 {
     let mut at: usize = 0;
     let mut count: u64 = 0;
-    let mut size = leaf::length_at(s, at);
+    let mut size = bytes::number_at(s, at);
     while size != 0 {
         let payload = at + 4;
         at = payload + size as usize;
         count += pairs_with_later(s, payload, at);
-        size = leaf::length_at(s, at);
+        size = bytes::number_at(s, at);
     }
     count
 }
@@ -65,12 +68,12 @@ fn pairs_with_later(s: &[u8], payload: usize, next: usize) -> u64
     }
     let mut at = next;
     let mut count: u64 = 0;
-    let mut size = leaf::length_at(s, at);
+    let mut size = bytes::number_at(s, at);
     while size != 0 {
         let other = at + 4;
         count += pair(s, path, other);
         at = other + size as usize;
-        size = leaf::length_at(s, at);
+        size = bytes::number_at(s, at);
     }
     count
 }
@@ -95,15 +98,15 @@ fn same_text(s: &[u8], a: usize, b: usize) -> bool
     requires { ⌜ TextIn (now s) a × TextIn (now s) b ⌝ }
     ensures { λ r. ⌜ r ≡ same (textFrom (now (s .entry)) a) (textFrom (now (s .entry)) b) ⌝ }
 {
-    let size = leaf::length_at(s, a) as usize;
-    if size != leaf::length_at(s, b) as usize {
+    let size = bytes::number_at(s, a) as usize;
+    if size != bytes::number_at(s, b) as usize {
         return false;
     }
     let i = a + 4;
     let j = b + 4;
     let k = i + size;
     let l = j + size;
-    section::same(&s[i..k], &s[j..l])
+    bytes::same(&s[i..k], &s[j..l])
 }
 
 // Where the length of a payload's full_path stands, or 0: a schema and the sentinel, which begins with 0, have none.
@@ -111,7 +114,7 @@ fn full_path(s: &[u8], payload: usize) -> usize
     requires { ⌜ PayloadIn (now s) payload ⌝ }
     ensures { λ r. ⌜ r ≡ pathPlace (now (s .entry)) payload ⌝ }
 {
-    let kind = s[payload] as usize;
+    let kind = bytes::wide(s[payload]);
     let at = payload + 1;
     match kind {
         layout::ENTITY_CUSTOM_SQL => behind_two_texts(s, at),
@@ -131,7 +134,7 @@ fn behind_text(s: &[u8], at: usize) -> usize
     requires { ⌜ at < far ⌝ }
     ensures { λ r. ⌜ (r ≡ behindFields (now (s .entry)) (T ∷ []) at) × (r < at + longest) ⌝ }
 {
-    at + 4 + leaf::length_at(s, at) as usize
+    at + 4 + bytes::number_at(s, at) as usize
 }
 
 // Behind two texts.

@@ -1,12 +1,13 @@
--- What four numbers tell of a reading, a measuring and a writing.
-use Prim.Native.Nat.{ℕ}
+-- What four numbers tell of a reading, a measuring, a writing and a part.
+use Prim.Native.Nat.{ℕ, _+_, _-_}
 use native.Mathlib.Omega.{arith}
 use mathlib.Core.Bool.{Bool}
-use mathlib.Core.List.{List}
+use mathlib.Core.List.{List, [], _∷_}
 use mathlib.Core.Logic.{_↔_}
 use mathlib.Core.Path.{_≡_, refl, sym, ap, subst, _∙_}
 use borrow.Author.Tests.{ne-eqb}
 use Rattle.layout.specs.Layout.{Layout}
+use Rattle.layout.specs.Reading.{ok}
 use Rattle.layout.specs.Answers.{Answer, Result}
 use Rattle.layout.specs.Alone.{ExactAlone}
 use Rattle.layout.specs.ReadAlone.{readingAlone}
@@ -15,11 +16,10 @@ use Rattle.layout.proofs.Alone.{alone-exact, alone-told}
 use Rattle.section.specs.Section.{reading}
 use Rattle.section.specs.Demand3.{Demand3}
 use Rattle.section.proofs.Demand3.{reading-meets, reading-told}
-use Rattle.leaf.specs.Finish.{answerOf, resultOf}
-use Rattle.length.specs.Length.{Length, counted, refused}
+use Rattle.table.specs.Answers.{answerOf, resultOf, Total, counted, uncounted}
 use Rattle.entry_writer.specs.Refusals.{WriteRefusal, not-spelled, bad-text, too-long, no-space}
-use Rattle.pgrxsc.specs.Numbers.{answerNumbers, answerIn, resultIn, lengthNumbers, lengthTold}
-use Rattle.leaf.specs.declared.Answer as declared
+use Rattle.pgrxsc.specs.Numbers.{answerNumbers, answerIn, resultIn, partNumbers, lengthNumbers, lengthTold}
+use Rattle.table.specs.declared.Answer as declared
 
 -- The numbers of an answer that its number tells, tell that answer
 in-numbers : (a : Answer) → Told a → answerIn (answerNumbers a) ≡ a
@@ -52,11 +52,15 @@ writing-some (too-long v s g h) z = omega arith
 writing-some (no-space v s g h k) z = omega arith
 
 -- The numbers of a length, whose refusals are told by their number, tell that length
-length-in : (l : Length) → ((n p : ℕ) → l ≡ refused n p → n ≡ 0 → ⊥) → lengthTold (lengthNumbers l) ≡ l
+length-in : (l : Total) → ((n p : ℕ) → l ≡ uncounted n p → n ≡ 0 → ⊥) → lengthTold (lengthNumbers l) ≡ l
 length-in (counted n) h = refl
-length-in (refused n p) h = rw (ne-eqb n 0 (h n p refl))
+length-in (uncounted n p) h = rw (ne-eqb n 0 (h n p refl))
 
 -- So what holds of the length of a measuring or of a writing, whose refusals are those of a writing, holds of what the numbers tell
-pub length-told : (P : Length → Type 0) {L : Layout} {rows text : List ℕ} {size : ℕ} (numbers : List ℕ) (l : Length) → numbers ≡ lengthNumbers l
-    → ((n p : ℕ) → (l ≡ refused n p) ↔ WriteRefusal L rows text size n × (p ≡ 0)) → P l → P (lengthTold numbers)
+pub length-told : (P : Total → Type 0) {L : Layout} {rows text : List ℕ} {size : ℕ} (numbers : List ℕ) (l : Total) → numbers ≡ lengthNumbers l
+    → ((n p : ℕ) → (l ≡ uncounted n p) ↔ WriteRefusal L rows text size n × (p ≡ 0)) → P l → P (lengthTold numbers)
 length-told P numbers l e r x = subst P (sym (ap lengthTold e ∙ length-in l λ n p q. writing-some (r n p .0 q .0))) x
+
+-- A part by its start and its length
+pub part-told : (start len : ℕ) → 0 ∷ 0 ∷ start ∷ len ∷ [] ≡ partNumbers (ok start (start + len))
+part-told start len = let e : len ≡ start + len - start = omega arith in ap (λ (n : ℕ). 0 ∷ 0 ∷ start ∷ n ∷ []) e

@@ -6,9 +6,8 @@ use lib.Dec.{eqb}
 use lib.ListN.{getD}
 use Rattle.layout.specs.Answers.{Answer, Result}
 use Rattle.layout.specs.Reading.{Outcome, ok, refuse}
+use Rattle.table.specs.Answers.{Total, counted, uncounted}
 use Rattle.parts.specs.SqlText.{SqlAnswer}
-use Rattle.length.specs.Length as length
-use Rattle.paths.specs.Paths as paths
 
 -- A refusal
 abbrev pub refusalNumbers : (number place : ℕ) → List ℕ
@@ -46,20 +45,20 @@ abbrev pub inBuffer : SqlAnswer → ℕ
 inBuffer a = cond (a .buffered) 1 0
 
 -- A written length: the third number
-abbrev pub lengthNumbers : length.Length → List ℕ
-lengthNumbers (length.counted n) = 0 ∷ 0 ∷ n ∷ 0 ∷ []
-lengthNumbers (length.refused number place) = refusalNumbers number place
+abbrev pub lengthNumbers : Total → List ℕ
+lengthNumbers (counted n) = 0 ∷ 0 ∷ n ∷ 0 ∷ []
+lengthNumbers (uncounted number place) = refusalNumbers number place
 
 -- The length that four numbers tell, or the refusal
-abbrev pub lengthTold : List ℕ → length.Length
-lengthTold ns = cond (eqb (getD ns 0 0) 0) (length.counted (getD ns 2 0)) (length.refused (getD ns 0 0) (getD ns 1 0))
+abbrev pub lengthTold : List ℕ → Total
+lengthTold ns = cond (eqb (getD ns 0 0) 0) (counted (getD ns 2 0)) (uncounted (getD ns 0 0) (getD ns 1 0))
 
 -- A path report, whose pairs are returned beside the numbers
-abbrev pub reportNumbers : paths.Report → List ℕ
-reportNumbers (paths.counted pairs) = 0 ∷ 0 ∷ 0 ∷ 0 ∷ []
-reportNumbers (paths.refused number place) = refusalNumbers number place
+abbrev pub reportNumbers : Total → List ℕ
+reportNumbers (counted pairs) = 0 ∷ 0 ∷ 0 ∷ 0 ∷ []
+reportNumbers (uncounted number place) = refusalNumbers number place
 
 -- The pairs, 0 after a refusal
-abbrev pub pairsIn : paths.Report → ℕ
-pairsIn (paths.counted pairs) = pairs
-pairsIn (paths.refused number place) = 0
+abbrev pub pairsIn : Total → ℕ
+pairsIn (counted pairs) = pairs
+pairsIn (uncounted number place) = 0

@@ -1,31 +1,31 @@
 // The functions that programs in other languages call. Each hands its work on and adds nothing but the packing of the answer:
 // four numbers, of which the first two are a refusal's number and place, or 0 and 0.
-use leaf::Answer;
 use length::Length;
-use parts::Row;
 use parts::SqlPlace;
+use parts::TextPlace;
 use paths::PathReport;
+use table::Answer;
+use table::Refusal;
+use table::Row;
 ghost use mathlib.Core.Bool.{true};
 ghost use mathlib.Core.Logic.{_↔_};
 ghost use mathlib.Core.Path.{_≡_};
-ghost use Prim.Native.Nat.{_≤_};
 ghost use lib.ListN.{length};
 ghost use Rattle.text.specs.Rfc3629.{Utf8};
 ghost use Rattle.text.specs.Walk.{utf8};
 ghost use Rattle.layout.specs.Entities.{Entity, SqlMapping, FunctionMetadataType};
 ghost use Rattle.layout.specs.Alone.{ExactAlone};
 ghost use Rattle.layout.specs.ReadAlone.{readingAlone};
-ghost use Rattle.leaf.specs.Finish.{answerOf};
+ghost use Rattle.table.specs.Answers.{answerOf};
 ghost use Rattle.section.specs.Section.{reading};
 ghost use Rattle.section.specs.Demand3.{Demand3};
-ghost use Rattle.parts.specs.Parts.{rowText, sqlNameIn};
+ghost use Rattle.parts.specs.Parts.{rowText, sqlNameIn, foundPart};
 ghost use Rattle.parts.specs.SqlText.{sqlText, filled, sqlAnswer, sqlAnswerOf};
 ghost use Rattle.paths.specs.Paths.{report, reportOf};
 ghost use Rattle.length.specs.Length.{lengthOf};
 ghost use Rattle.entry_writer.specs.Writing.{measured, write, lengthIn, written};
 ghost use Rattle.entry_writer.specs.Refusals.{ExactLength, ExactWriting};
-ghost use Rattle.pgrxsc.specs.Numbers.{answerNumbers, resultIn, partNumbers, placeNumbers, inBuffer, lengthNumbers, lengthTold, reportNumbers, pairsIn};
-ghost use Rattle.pgrxsc.specs.Private.{toldPart};
+ghost use Rattle.pgrxsc.specs.Numbers.{refusalNumbers, answerNumbers, resultIn, partNumbers, placeNumbers, inBuffer, lengthNumbers, lengthTold, reportNumbers, pairsIn};
 
 // Reads a whole section. The third number is that of entities, the fourth that of rows.
 #[no_mangle]
@@ -83,11 +83,7 @@ pub extern "C" fn pgrxsc_row_text(
         offset,
         value,
     };
-    let mut number = 0;
-    let mut place = 0;
-    let text = parts::row_text(bytes, row, &mut number, &mut place);
-    let end = offset as u64 + value as u64;
-    *answer = part_numbers(number, place, end, text.len() as u64);
+    *answer = part_numbers(parts::place_row_text(bytes, row));
 }
 
 // The same for the SQL name of a declaration, from the row of the declaration's name.
@@ -106,11 +102,7 @@ pub extern "C" fn pgrxsc_sql_name(
         offset,
         value,
     };
-    let mut number = 0;
-    let mut place = 0;
-    let name = parts::sql_name(bytes, row, &mut number, &mut place);
-    let end = offset as u64 + value as u64;
-    *answer = part_numbers(number, place, end, name.len() as u64);
+    *answer = part_numbers(parts::place_sql_name(bytes, row));
 }
 
 // The SQL text of the mapping at an offset. The third number is its start, the fourth its length: in the buffer if 1 is returned,
@@ -205,19 +197,25 @@ fn answer_numbers(answer: Answer) -> [u64; 4]
 {
     match answer {
         Answer::Accepted { entities, rows } => [0, 0, entities as u64, rows as u64],
-        Answer::Refused { number, place } => [number as u64, place as u64, 0, 0],
+        Answer::Refused(refusal) => refusal_numbers(refusal),
     }
 }
 
-// A part of the bytes, as an answer: its length and where it ends; or a refusal's number and place.
-fn part_numbers(number: u32, place: u32, end: u64, len: u64) -> [u64; 4]
-    requires { ⌜ len ≤ end ⌝ }
-    ensures { λ r. ⌜ r ≡ partNumbers (toldPart number place end len) ⌝ }
+// A refusal, as an answer.
+fn refusal_numbers(refusal: Refusal) -> [u64; 4]
+    ensures { λ r. ⌜ r ≡ refusalNumbers (refusal .number) (refusal .place) ⌝ }
 {
-    if number != 0 {
-        return [number as u64, place as u64, 0, 0];
+    [refusal.number as u64, refusal.place as u64, 0, 0]
+}
+
+// A part of the bytes, as an answer.
+fn part_numbers(place: TextPlace) -> [u64; 4]
+    ensures { λ r. ⌜ r ≡ partNumbers (foundPart place) ⌝ }
+{
+    match place {
+        TextPlace::Section { start, len } => [0, 0, start as u64, len as u64],
+        TextPlace::Refused(refusal) => refusal_numbers(refusal),
     }
-    [0, 0, end - len, len]
 }
 
 // Where an SQL text stands, as an answer.
@@ -227,7 +225,7 @@ fn place_numbers(place: SqlPlace) -> [u64; 4]
     match place {
         SqlPlace::Section { start, len } => [0, 0, start as u64, len as u64],
         SqlPlace::Buffer { len } => [0, 0, 0, len as u64],
-        SqlPlace::Refused { number, place } => [number as u64, place as u64, 0, 0],
+        SqlPlace::Refused(refusal) => refusal_numbers(refusal),
     }
 }
 
@@ -238,10 +236,7 @@ fn in_buffer(place: SqlPlace) -> u32
     match place {
         SqlPlace::Section { start: _, len: _ } => 0,
         SqlPlace::Buffer { len: _ } => 1,
-        SqlPlace::Refused {
-            number: _,
-            place: _,
-        } => 0,
+        SqlPlace::Refused(_) => 0,
     }
 }
 
@@ -251,7 +246,7 @@ fn length_numbers(length: Length) -> [u64; 4]
 {
     match length {
         Length::Counted { count } => [0, 0, count as u64, 0],
-        Length::Refused { number, place } => [number as u64, place as u64, 0, 0],
+        Length::Refused(refusal) => refusal_numbers(refusal),
     }
 }
 
@@ -261,7 +256,7 @@ fn report_numbers(report: PathReport) -> [u64; 4]
 {
     match report {
         PathReport::Counted { pairs: _ } => [0, 0, 0, 0],
-        PathReport::Refused { number, place } => [number as u64, place as u64, 0, 0],
+        PathReport::Refused(refusal) => refusal_numbers(refusal),
     }
 }
 

@@ -1,22 +1,15 @@
--- Bytes that are looked at one after the other.
+-- Zeros that are looked at one after the other.
 use Prim.Native.Nat.{ℕ, zero, suc, _+_, _≤_, _<_}
-use native.Mathlib.Numerals.{add-one}
 use native.Mathlib.Omega.{arith}
 use mathlib.Core.Bool.{Bool, true, false, _&&_}
-use mathlib.Core.List.{List, _∷_}
+use mathlib.Core.List.{List}
 use mathlib.Core.Path.{_≡_, sym, ap, _∙_}
 use lib.Bits.{bitOr, or-zero-l, or-add-and, and-le-r}
 use lib.Dec.{eqb}
 use lib.ListN.{length, getD, drop, drop-of-length-le}
-use lib.Seq.{drop-cons}
-use borrow.Author.Tests.{eq-eqb, ne-eqb}
-use Rattle.layout.proofs.BadReads.{not-true}
+use borrow.Author.Tests.{ne-eqb}
 use Rattle.section.specs.Framing.{allZero}
-use Rattle.section.specs.Section.{same}
-use Rattle.section.proofs.Section.{same-sound}
-
-pub byte-there : (s : List ℕ) (i : ℕ) → i < length s → drop i s ≡ getD s i 0 ∷ drop (i + 1) s
-byte-there s i h = rw (add-one, drop-cons s i 0 h)
+use Rattle.bytes.proofs.Compared.{byte-there}
 
 -- Zeros, by the bits that bytes have in common
 or-zero : (a b : ℕ) → eqb (bitOr a b) 0 ≡ (eqb a 0 && eqb b 0)
@@ -46,17 +39,3 @@ zeros-past b c z e f = rw f at e
 pub zeros-last : (b c z : Bool) → z ≡ (b && c) → c ≡ true → b ≡ z
 zeros-last true c z e f = sym (e ∙ f)
 zeros-last false c z e f = sym e
-
--- The same bytes
-pub same-not : (a b : List ℕ) → (length a ≡ length b → ⊥) → same a b ≡ false
-same-not a b h = not-true (same a b) (λ e. h (ap length (same-sound a b e)))
-
-module _ (a b : List ℕ) (i : ℕ) where
-  pub same-on : i < length a → i < length b → getD a i 0 ≡ getD b i 0 → same (drop i a) (drop i b) ≡ same (drop (i + 1) a) (drop (i + 1) b)
-  same-on h k e = rw (byte-there a i h, byte-there b i k, eq-eqb (getD a i 0) (getD b i 0) e)
-
-  pub same-differ : i < length a → i < length b → (getD a i 0 ≡ getD b i 0 → ⊥) → same (drop i a) (drop i b) ≡ false
-  same-differ h k e = rw (byte-there a i h, byte-there b i k, ne-eqb (getD a i 0) (getD b i 0) e)
-
-  pub same-end : length a ≤ i → length b ≤ i → same (drop i a) (drop i b) ≡ true
-  same-end h k = rw (drop-of-length-le a h, drop-of-length-le b k)

@@ -7,7 +7,7 @@ use lib.ListN.{length, replicate, replicate-append-replicate}
 use Rattle.layout.specs.Reading.{Outcome, ok, refuse, _>>=_}
 use Rattle.layout.specs.Entities.{Entity}
 use Rattle.layout.specs.Answers.{limit, Given}
-use Rattle.layout.specs.ReadAlone.{tell}
+use Rattle.layout.specs.ReadAlone.{throughTable}
 use Rattle.layout.specs.Theorems.{Bytes}
 use Rattle.layout.proofs.Walk.{all-bind}
 use Rattle.layout.proofs.Judges.{payload-upto}
@@ -58,7 +58,7 @@ pub reading-told : Reading-told
 unfolding reading
 reading-told s u table = told (Good s) gives (SectionRefusal s) (sectionGiven s) (finds s u) table
 
-tell-free : (m : Outcome ℕ Given) (table other : List ℕ) → length table ≡ length other → tell m table ≡ tell m other
+tell-free : (m : Outcome ℕ Given) (table other : List ℕ) → length table ≡ length other → throughTable m table ≡ throughTable m other
 tell-free (ok g end) table other e = rw e
 tell-free (refuse n p) table other e = rw e
 

@@ -1,5 +1,5 @@
 -- The walk over a section: from boundary to boundary, and what is read on the way.
-use Prim.Native.Nat.{ℕ, _+_, _*_, _/_, _≤_, _<_}
+use Prim.Native.Nat.{ℕ, _+_, _*_, _/_, _≤_, _<_, min}
 use native.Mathlib.Omega.{arith}
 use mathlib.Core.Bool.{Bool, true, false, cond, _&&_}
 use mathlib.Core.List.{List, [], _∷_, _++_, append-assoc, append-nil}
@@ -8,30 +8,33 @@ use mathlib.Core.Path.{_≡_, refl, sym, ap, _∙_}
 use lib.Dec.{ltb, leb}
 use lib.ListN.{length, take, drop, length-append, length-drop}
 use lib.Seq.{length-take-le}
-use borrow.Author.Tests.{ltb-true, ltb-false, ne-eqb, leb-true, leb-false, le-leb, lt-leb, eq-eqb}
+use borrow.Author.Tests.{ltb-true, ltb-false, leb-true, leb-false, le-leb, lt-leb, eq-eqb}
 use Rattle.layout.specs.Layout.{Leaf}
 use Rattle.layout.specs.Written.{bytes, rowWidth}
 use Rattle.layout.specs.Entities.{Entity}
 use Rattle.layout.specs.Reading.{Outcome, ok, refuse, _>>=_, numberAt, read}
 use Rattle.layout.specs.Answers.{limit, wholeRows, refusal}
-use Rattle.layout.specs.ReadAlone.{tell}
+use Rattle.layout.specs.ReadAlone.{throughTable}
 use Rattle.layout.specs.Theorems.{Bytes}
 use Rattle.layout.proofs.Walk.{all-ok}
 use Rattle.layout.proofs.InBytes.{four-sound, number-small, read-sound}
 use Rattle.leaf.specs.declared.Cursor.{Cursor}
-use Rattle.leaf.specs.State.{ReadState, readState, newCursor, seek, lengthAt, refusedOnce, stopped}
+use Rattle.bytes.specs.Bytes.{numberOr0}
+use Rattle.leaf.specs.State.{ReadState, readState, newCursor, seek, finishedAt, stopped}
 use Rattle.leaf.specs.Run.{run}
-use Rattle.leaf.specs.Finish.{finished}
+use Rattle.leaf.specs.Answered.{answered}
 use Rattle.leaf.specs.Theorems.{arriveAll, Follows}
-use Rattle.leaf.proofs.Leaves.{length-none, length-there}
-use Rattle.leaf.proofs.Table.{arriveAll-length, fills, shorts, stays-short}
+use Rattle.bytes.proofs.Number.{number-none, number-there}
+use Rattle.leaf.proofs.Table.{arriveAll-length, fills, counts}
 use Rattle.leaf.proofs.Reading.{arriveAll-refusal, moved-of, stops-of, run-read}
-use Rattle.leaf.proofs.Finish.{finished-refused, finished-told}
+use Rattle.leaf.proofs.Answered.{finished-refused, answered-refused, answered-told}
 use Rattle.section.specs.Derivation.{sentinelBytes, Placed, totalLeaves, rowsOf, givenOf}
 use Rattle.section.specs.Framing.{allZero, Part, Parts}
 use Rattle.section.specs.Answers.{framingEnd}
-use Rattle.section.specs.Section.{same, ended, readEntity, readPayload, readPayloads, readSection}
-use Rattle.section.specs.Private.{Stage, stage, seeks, closed, entered, pastEntry, arriveEntities, Reads, reads, stops, framingFrom, endOf, Walked, entryEnd, Walks}
+use Rattle.bytes.specs.Bytes.{same}
+use Rattle.section.specs.Section.{ended, readEntity, readPayload, readPayloads, readSection}
+use Rattle.section.specs.Entry.{Stage, stage, seeks, entered, pastEntry, entryEnd}
+use Rattle.section.specs.Private.{arriveEntities, Reads, reads, stops, framingFrom, endOf, Walked, Walks}
 use Rattle.section.specs.Refusals.{framed, Framable}
 use Rattle.section.proofs.Framing.{partAt, partsOf, partsBefore, framing-start, framed-as, from-pad, from-few, from-zero, from-long, from-entry, four-not-zero, entry-at}
 use Rattle.section.proofs.Section.{bytes-take}
@@ -60,57 +63,57 @@ module _ (s : List ℕ) (at : ℕ) (w : Walked s at) where
       pub ends-few : length s < at + 4 → refuse 2 at ≡ framingEnd s
       ends-few l = sym (w .rest ∙ rw (from-few s at (w .inside) (sym q ∙ k) l))
 
-      pub ends-zero : (n : ℕ) → n ≡ lengthAt s at → at + 4 ≤ length s → n ≡ 0 → refuse 3 at ≡ framingEnd s
-      ends-zero n e m l = sym (w .rest ∙ rw (from-zero s at (w .inside) (sym q ∙ k) m (sym (length-there s at m) ∙ sym e ∙ l)))
+      pub ends-zero : (n : ℕ) → n ≡ numberOr0 s at → at + 4 ≤ length s → n ≡ 0 → refuse 3 at ≡ framingEnd s
+      ends-zero n e m l = sym (w .rest ∙ rw (from-zero s at (w .inside) (sym q ∙ k) m (sym (number-there s at m) ∙ sym e ∙ l)))
 
-      pub ends-long : (n : ℕ) → n ≡ lengthAt s at → at + 4 ≤ length s → 1 ≤ n → length s < at + 4 + n → refuse 4 at ≡ framingEnd s
-      ends-long n e m l j = sym (w .rest ∙ rw (from-long s at (w .inside) (sym q ∙ k) n (sym (length-there s at m) ∙ sym e) m l j))
+      pub ends-long : (n : ℕ) → n ≡ numberOr0 s at → at + 4 ≤ length s → 1 ≤ n → length s < at + 4 + n → refuse 4 at ≡ framingEnd s
+      ends-long n e m l j = sym (w .rest ∙ rw (from-long s at (w .inside) (sym q ∙ k) n (sym (number-there s at m) ∙ sym e) m l j))
 
-  next-entry : Bytes s → (n : ℕ) → n ≡ lengthAt s at → 1 ≤ n → at + 4 + n ≤ length s → Next s at n
+  next-entry : Bytes s → (n : ℕ) → n ≡ numberOr0 s at → 1 ≤ n → at + 4 + n ≤ length s → Next s at n
   next-entry u n e l j =
       let m : at + 4 ≤ length s = omega arith in
-      let k : numberAt s at ≡ n = sym (length-there s at m) ∙ sym e in
+      let k : numberAt s at ≡ n = sym (number-there s at m) ∙ sym e in
       let z : allZero (drop at s) ≡ false = rw (four-sound s u at m) (four-not-zero (numberAt s at) (drop (at + 4) s) (rw k l) (number-small s u at m)) in
       let f = from-entry s at (w .inside) z n k m l j in
       record { inside = j; frames = f; walked = record { inside = j; rest = w .rest ∙ rw f (end-before (partAt at n) (framingFrom s (at + 4 + n))) } }
 
 -- A whole entry stands at a boundary, or none
 module _ (s : List ℕ) (at : ℕ) where
-  pub length-some : (lengthAt s at ≡ 0 → ⊥) → at + 4 ≤ length s
+  pub length-some : (numberOr0 s at ≡ 0 → ⊥) → at + 4 ≤ length s
   length-some h = go (leb (at + 4) (length s)) refl
     where
       go : (b : Bool) → leb (at + 4) (length s) ≡ b → at + 4 ≤ length s
       go true e = leb-true (at + 4) (length s) e
-      go false e = absurd (h (length-none s at (leb-false (at + 4) (length s) e)))
+      go false e = absurd (h (number-none s at (leb-false (at + 4) (length s) e)))
 
-  pub entry-here : 1 ≤ lengthAt s at → at + 4 + lengthAt s at ≤ length s → entryEnd s at ≡ at + 4 + lengthAt s at
+  pub entry-here : 1 ≤ numberOr0 s at → at + 4 + numberOr0 s at ≤ length s → entryEnd s at ≡ at + 4 + numberOr0 s at
   unfolding entryEnd
-  entry-here h k = rw (le-leb 1 (lengthAt s at) h, le-leb (at + 4 + lengthAt s at) (length s) k)
+  entry-here h k = rw (le-leb 1 (numberOr0 s at) h, le-leb (at + 4 + numberOr0 s at) (length s) k)
 
-  pub entry-zero : lengthAt s at ≡ 0 → entryEnd s at ≡ at
+  pub entry-zero : numberOr0 s at ≡ 0 → entryEnd s at ≡ at
   unfolding entryEnd
   entry-zero h = rw h
 
-  pub entry-long : length s < at + 4 + lengthAt s at → entryEnd s at ≡ at
+  pub entry-long : length s < at + 4 + numberOr0 s at → entryEnd s at ≡ at
   unfolding entryEnd
-  entry-long h = go (leb 1 (lengthAt s at))
+  entry-long h = go (leb 1 (numberOr0 s at))
     where
-      go : (b : Bool) → cond (b && leb (at + 4 + lengthAt s at) (length s)) (at + 4 + lengthAt s at) at ≡ at
-      go true = rw (lt-leb (at + 4 + lengthAt s at) (length s) h)
+      go : (b : Bool) → cond (b && leb (at + 4 + numberOr0 s at) (length s)) (at + 4 + numberOr0 s at) at ≡ at
+      go true = rw (lt-leb (at + 4 + numberOr0 s at) (length s) h)
       go false = refl
 
   -- By its end
   record Whole : Type 0 where
-    some : 1 ≤ lengthAt s at
-    inside : at + 4 + lengthAt s at ≤ length s
+    some : 1 ≤ numberOr0 s at
+    inside : at + 4 + numberOr0 s at ≤ length s
 
   whole-or-none : (entryEnd s at ≡ at) ⊎ Whole
-  whole-or-none = go (leb 1 (lengthAt s at)) (leb (at + 4 + lengthAt s at) (length s)) refl refl
+  whole-or-none = go (leb 1 (numberOr0 s at)) (leb (at + 4 + numberOr0 s at) (length s)) refl refl
     where
-      go : (b c : Bool) → leb 1 (lengthAt s at) ≡ b → leb (at + 4 + lengthAt s at) (length s) ≡ c → (entryEnd s at ≡ at) ⊎ Whole
-      go true true e f = inr (record { some = leb-true 1 (lengthAt s at) e; inside = leb-true (at + 4 + lengthAt s at) (length s) f })
-      go true false e f = inl (entry-long (leb-false (at + 4 + lengthAt s at) (length s) f))
-      go false c e f = inl (entry-zero (omega (arith, leb-false 1 (lengthAt s at) e)))
+      go : (b c : Bool) → leb 1 (numberOr0 s at) ≡ b → leb (at + 4 + numberOr0 s at) (length s) ≡ c → (entryEnd s at ≡ at) ⊎ Whole
+      go true true e f = inr (record { some = leb-true 1 (numberOr0 s at) e; inside = leb-true (at + 4 + numberOr0 s at) (length s) f })
+      go true false e f = inl (entry-long (leb-false (at + 4 + numberOr0 s at) (length s) f))
+      go false c e f = inl (entry-zero (omega (arith, leb-false 1 (numberOr0 s at) e)))
 
   pub none-here : entryEnd s at ≤ at → entryEnd s at ≡ at
   none-here h = go whole-or-none
@@ -119,17 +122,17 @@ module _ (s : List ℕ) (at : ℕ) where
       go (inl e) = e
       go (inr w) = absurd (omega (arith, entry-here (w .some) (w .inside)))
 
-  pub whole-here : at < entryEnd s at → (entryEnd s at ≡ at + 4 + lengthAt s at) × (1 ≤ lengthAt s at) × (at + 4 + lengthAt s at ≤ length s)
+  pub whole-here : at < entryEnd s at → (entryEnd s at ≡ at + 4 + numberOr0 s at) × (1 ≤ numberOr0 s at) × (at + 4 + numberOr0 s at ≤ length s)
   whole-here h = go whole-or-none
     where
-      go : (entryEnd s at ≡ at) ⊎ Whole → (entryEnd s at ≡ at + 4 + lengthAt s at) × (1 ≤ lengthAt s at) × (at + 4 + lengthAt s at ≤ length s)
+      go : (entryEnd s at ≡ at) ⊎ Whole → (entryEnd s at ≡ at + 4 + numberOr0 s at) × (1 ≤ numberOr0 s at) × (at + 4 + numberOr0 s at ≤ length s)
       go (inl e) = absurd (omega arith)
       go (inr w) = (entry-here (w .some) (w .inside), w .some, w .inside)
 
 -- From a boundary to the next, by the end of its entry
 module _ (s : List ℕ) (u : Bytes s) (at : ℕ) (w : Walked s at) where
-  next-whole : at < entryEnd s at → Next s at (lengthAt s at)
-  next-whole h = next-entry s at w u (lengthAt s at) refl (whole-here s at h .1) (whole-here s at h .2)
+  next-whole : at < entryEnd s at → Next s at (numberOr0 s at)
+  next-whole h = next-entry s at w u (numberOr0 s at) refl (whole-here s at h .1) (whole-here s at h .2)
 
   pub end-walked : (end : ℕ) → end ≡ entryEnd s at → at < end → Walked s end
   end-walked end q l =
@@ -137,12 +140,12 @@ module _ (s : List ℕ) (u : Bytes s) (at : ℕ) (w : Walked s at) where
       rw (q, whole-here s at h .0) (next-whole h .walked)
 
 -- No whole entry stands at a boundary where the length is too long
-pub none-long : (s : List ℕ) (at : ℕ) → entryEnd s at ≡ at → 1 ≤ lengthAt s at → length s < at + 4 + lengthAt s at
-none-long s at e h = go (leb (at + 4 + lengthAt s at) (length s)) refl
+pub none-long : (s : List ℕ) (at : ℕ) → entryEnd s at ≡ at → 1 ≤ numberOr0 s at → length s < at + 4 + numberOr0 s at
+none-long s at e h = go (leb (at + 4 + numberOr0 s at) (length s)) refl
   where
-    go : (b : Bool) → leb (at + 4 + lengthAt s at) (length s) ≡ b → length s < at + 4 + lengthAt s at
-    go true f = absurd (omega (arith, e, entry-here s at h (leb-true (at + 4 + lengthAt s at) (length s) f)))
-    go false f = leb-false (at + 4 + lengthAt s at) (length s) f
+    go : (b : Bool) → leb (at + 4 + numberOr0 s at) (length s) ≡ b → length s < at + 4 + numberOr0 s at
+    go true f = absurd (omega (arith, e, entry-here s at h (leb-true (at + 4 + numberOr0 s at) (length s) f)))
+    go false f = leb-false (at + 4 + numberOr0 s at) (length s) f
 
 -- The entities from a boundary on
 unfoldable pub readFrom : List ℕ → ℕ → Outcome ℕ (List Placed)
@@ -207,7 +210,7 @@ reads-end s u at end h c q = let f = all-ok (framed-as s u at h) (c .frames) in 
     go [] f p e n = (omega arith, rw (c .frames, p))
     go (x ∷ xs) f p e n =
         let i = entry-at s at x (framed xs ++ drop end s) h (f .0) (f .1) (simp append-assoc at e) in
-        let m : lengthAt s at ≡ length x = length-there s at (omega (arith, i .inside)) ∙ i .number in
+        let m : numberOr0 s at ≡ length x = number-there s at (omega (arith, i .inside)) ∙ i .number in
         absurd (omega (arith, q, m, f .0, i .inside, entry-here s at (omega (arith, m, f .0)) (omega (arith, m, i .inside))))
 
 -- Entities that arrive
@@ -257,7 +260,7 @@ module _ (s table : List ℕ) (u : Bytes s) (small : length s ≤ limit) where
     on : (fs : List Placed) (m : ℕ) → readPayload s (partAt at n) ≡ ok fs m → readSection s ≡ before (es ++ fs) (readFrom s z)
     on fs m q = rest ∙ ap (before es) (reads-on s at z (partAt at n) (x .frames) fs m q) ∙ before-append es fs (readFrom s z)
 
-    leads-refused : (g : Stage) (k p : ℕ) → g .state .cursor .refusal ≡ k → (k ≡ 0 → ⊥) → g .state .cursor .place ≡ p → length (g .state .table) ≡ length table → readPayload s (partAt at n) ≡ refuse k p → Leads s table z g
+    leads-refused : (g : Stage) (k p : ℕ) → g .state .cursor .refusal ≡ k → (k ≡ 0 → ⊥) → g .state .cursor .at ≡ p → length (g .state .table) ≡ length table → readPayload s (partAt at n) ≡ refuse k p → Leads s table z g
     leads-refused g k p e i q l r = record {
       refuses = λ w. record { walked = x .walked; kept = l; reads = λ end f. rw (off k p r end f) (stops (e, i, q, l)) };
       goes = λ w. absurd (i (sym e ∙ w));
@@ -282,7 +285,7 @@ module _ (s table : List ℕ) (u : Bytes s) (small : length s ≤ limit) where
       r = run Entity (take z s) (seeks (at + 4) st)
 
       abbrev result : Stage
-      result = stage (readState (closed z (r .cursor)) (r .table)) (length es + 1)
+      result = stage (readState (finishedAt z (r .cursor)) (r .table)) (length es + 1)
 
       payload-read : (o : Outcome ℕ (List Leaf)) → read Entity (take z s) (at + 4) ≡ o → readPayload s (partAt at n) ≡ (o >>= λ ls e. ended (partAt at n) ls e)
       unfolding readPayload readEntity
@@ -294,18 +297,11 @@ module _ (s table : List ℕ) (u : Bytes s) (small : length s ≤ limit) where
       follows : Follows (seeks (at + 4) st) r (read Entity (take z s) (at + 4))
       follows = run-read (take z s) (omega (arith, taken, x .inside)) Entity (seeks (at + 4) st) (arriveEntities-refusal es (readState newCursor table))
 
-      closed-refused : (c : Cursor) → (c .refusal ≡ 0 → ⊥) → closed z c ≡ c
-      closed-refused c w = go (ltb (c .at) z)
-        where
-          go : (b : Bool) → cond b (refusedOnce 12 (c .at) c) c ≡ c
-          go true = rw (ne-eqb (c .refusal) 0 w)
-          go false = refl
-
       entity-refused : (k p : ℕ) → read Entity (take z s) (at + 4) ≡ refuse k p → Leads s table z result
       entity-refused k p q =
           let (e, i, g, l) = stops-of (rw q at follows) in
-          let v : closed z (r .cursor) ≡ r .cursor = closed-refused (r .cursor) (λ w. i (sym e ∙ w)) in
-          leads-refused result k p (ap (λ (c : Cursor). c .refusal) v ∙ e) i (ap (λ (c : Cursor). c .place) v ∙ g) (l ∙ arriveEntities-length es (readState newCursor table))
+          let v : finishedAt z (r .cursor) ≡ r .cursor = finished-refused z (r .cursor) (λ w. i (sym e ∙ w)) in
+          leads-refused result k p (ap (λ (c : Cursor). c .refusal) v ∙ e) i (ap (λ (c : Cursor). c .at) v ∙ g) (l ∙ arriveEntities-length es (readState newCursor table))
           (payload-read (refuse k p) q)
 
       -- The entity ends inside the payload
@@ -318,15 +314,15 @@ module _ (s table : List ℕ) (u : Bytes s) (small : length s ≤ limit) where
       entity-read ls m true w q =
           let (e, g) = moved-of (rw q at follows) in
           let i : r .cursor .refusal ≡ 0 = ap (λ (y : ReadState). y .cursor .refusal) e ∙ arriveAll-refusal ls (seeks (at + 4) st) ∙ arriveEntities-refusal es (readState newCursor table) in
-          let v : closed z (r .cursor) ≡ stopped 12 m (r .cursor) = rw (g, w, eq-eqb _ _ i) in
-          leads-refused result 12 m (ap (λ (c : Cursor). c .refusal) v) (λ y. omega arith) (ap (λ (c : Cursor). c .place) v)
+          let v : finishedAt z (r .cursor) ≡ stopped 12 m (r .cursor) = rw (g, w, eq-eqb _ _ i) in
+          leads-refused result 12 m (ap (λ (c : Cursor). c .refusal) v) (λ y. omega arith) (ap (λ (c : Cursor). c .at) v)
           (ap (λ (y : ReadState). length (y .table)) e ∙ arriveAll-length ls (seeks (at + 4) st) ∙ arriveEntities-length es (readState newCursor table))
           (payload-read (ok ls m) q ∙ rw (lt-leb z m (ltb-true m z w)))
       entity-read ls m false w q =
           let (e, g) = moved-of (rw q at follows) in
           let i : r .cursor .refusal ≡ 0 = ap (λ (y : ReadState). y .cursor .refusal) e ∙ arriveAll-refusal ls (seeks (at + 4) st) ∙ arriveEntities-refusal es (readState newCursor table) in
           let y : m ≡ z = omega (arith, ltb-false m z w, ends-inside ls m q) in
-          let v : closed z (r .cursor) ≡ r .cursor = rw (g, w) in
+          let v : finishedAt z (r .cursor) ≡ r .cursor = rw (g, w) in
           let j : Placed = record { at = at + 4; content = ls } in
           let k : arriveEntities (es ++ (j ∷ [])) (readState newCursor table) ≡ r = arriveEntities-more es j (readState newCursor table) ∙ sym e in
           let a : r .cursor .at ≡ z = g ∙ y in
@@ -352,7 +348,7 @@ module _ (s table : List ℕ) (u : Bytes s) (small : length s ≤ limit) where
       where
         go : (b : Bool) → same (drop (at + 4) (take z s)) sentinelBytes ≡ b
             → Leads s table z (cond b (stage (seeks z st) (length es))
-            (stage (readState (closed z (run Entity (take z s) (seeks (at + 4) st) .cursor)) (run Entity (take z s) (seeks (at + 4) st) .table)) (length es + 1)))
+            (stage (readState (finishedAt z (run Entity (take z s) (seeks (at + 4) st) .cursor)) (run Entity (take z s) (seeks (at + 4) st) .table)) (length es + 1)))
         go true q = leads-sentinel q
         go false q = leads-entity q (read Entity (take z s) (at + 4)) refl
 
@@ -365,7 +361,7 @@ module _ (s table : List ℕ) (u : Bytes s) (small : length s ≤ limit) where
       here : at < entryEnd s at
       here = omega (arith, q)
 
-      pub entry-fits : g .state .cursor .at + 4 + lengthAt s (g .state .cursor .at) ≤ length s
+      pub entry-fits : g .state .cursor .at + 4 + numberOr0 s (g .state .cursor .at) ≤ length s
       entry-fits = rw stands-at (whole-here s at here .2)
 
       pub few-entities : g .entities ≤ limit
@@ -373,7 +369,7 @@ module _ (s table : List ℕ) (u : Bytes s) (small : length s ≤ limit) where
 
       pub leads : (r : Stage) → r ≡ pastEntry s g → Leads s table end r
       unfolding pastEntry
-      leads r e = rw (q, whole-here s at here .0, e, h .stands) (leads-entered at (h .found) (h .rest) (lengthAt s at) (next-whole s u at (h .walked) here) (h .few))
+      leads r e = rw (q, whole-here s at here .0, e, h .stands) (leads-entered at (h .found) (h .rest) (numberOr0 s at) (next-whole s u at (h .walked) here) (h .few))
 
     -- Where no whole entry stands
     pub come-end : end ≤ at → Walks s table at g
@@ -388,54 +384,40 @@ module _ (s table : List ℕ) (u : Bytes s) (small : length s ≤ limit) where
 -- Rows of entities in the table
 record Filled (es : List Placed) (st r : ReadState) : Type 0 where
   rows : r .cursor .rows ≡ st .cursor .rows + totalLeaves es
-  short : r .cursor .short ≡ st .cursor .short
   front : take (rowWidth * r .cursor .rows) (r .table) ≡ take (rowWidth * st .cursor .rows) (st .table) ++ rowsOf es
 
 entities-fill : (es : List Placed) (st : ReadState) → st .cursor .rows + totalLeaves es ≤ wholeRows (st .table) → Filled es st (arriveEntities es st)
-entities-fill [] st h = record { rows = omega arith; short = refl; front = rw append-nil }
+entities-fill [] st h = record { rows = omega arith; front = rw append-nil }
 entities-fill (e ∷ es) st h =
     let f = fills (e .content) (seeks (e .at) st) (omega arith) in
     let l = ap (λ (n : ℕ). n / rowWidth) (arriveAll-length (e .content) (seeks (e .at) st)) in
     let i = entities-fill es (arriveAll (e .content) (seeks (e .at) st)) (omega (arith, f .rows, l)) in
-    record { rows = omega (arith, i .rows, f .rows); short = i .short ∙ f .short; front = i .front ∙ rw (f .front, append-assoc) }
+    record { rows = omega (arith, i .rows, f .rows); front = i .front ∙ rw (f .front, append-assoc) }
 
-stays : (es : List Placed) (st : ReadState) → st .cursor .short ≡ 1 → arriveEntities es st .cursor .short ≡ 1
-stays [] st h = h
-stays (e ∷ es) st h = stays es (arriveAll (e .content) (seeks (e .at) st)) (stays-short (e .content) (seeks (e .at) st) h)
-
-entities-short : (es : List Placed) (st : ReadState) → wholeRows (st .table) < st .cursor .rows + totalLeaves es → st .cursor .rows ≤ wholeRows (st .table) → arriveEntities es st .cursor .short ≡ 1
-entities-short [] st h k = absurd (omega arith)
-entities-short (e ∷ es) st h k = go (leb (st .cursor .rows + length (e .content)) (wholeRows (st .table))) refl (λ a b. entities-short es (arriveAll (e .content) (seeks (e .at) st)) a b)
-  where
-    go : (b : Bool) → leb (st .cursor .rows + length (e .content)) (wholeRows (st .table)) ≡ b
-        → (wholeRows (arriveAll (e .content) (seeks (e .at) st) .table) < arriveAll (e .content) (seeks (e .at) st) .cursor .rows + totalLeaves es → arriveAll (e .content) (seeks (e .at) st) .cursor .rows ≤ wholeRows (arriveAll (e .content) (seeks (e .at) st) .table)
-        → arriveEntities es (arriveAll (e .content) (seeks (e .at) st)) .cursor .short ≡ 1)
-        → arriveEntities es (arriveAll (e .content) (seeks (e .at) st)) .cursor .short ≡ 1
-    go true q i =
-        let m = leb-true _ _ q in
-        let f = fills (e .content) (seeks (e .at) st) m in
-        let l = ap (λ (n : ℕ). n / rowWidth) (arriveAll-length (e .content) (seeks (e .at) st)) in
-        i (omega (arith, f .rows, l)) (omega (arith, f .rows, l))
-    go false q i = stays es (arriveAll (e .content) (seeks (e .at) st)) (shorts (e .content) (seeks (e .at) st) (leb-false _ _ q) k)
+-- Fitting or not, they are counted up to one more than the table has
+entities-count : (es : List Placed) (st : ReadState) → min (st .cursor .rows + totalLeaves es) (wholeRows (st .table) + 1) ≤ arriveEntities es st .cursor .rows
+entities-count [] st = omega arith
+entities-count (e ∷ es) st =
+    let l = ap (λ (n : ℕ). n / rowWidth) (arriveAll-length (e .content) (seeks (e .at) st)) in
+    omega (arith, counts (e .content) (seeks (e .at) st), entities-count es (arriveAll (e .content) (seeks (e .at) st)), l)
 
 -- The answer at the end of the walk
-module _ (s table : List ℕ) (small : length s ≤ limit) (end : ℕ) (ends : length s ≤ end) where
-  pub answers : (g : Stage) (o : Outcome ℕ (List Placed)) → Reads table end g o → finished (g .entities) s (g .state) ≡ tell (o >>= λ es e. ok (givenOf es) e) table
-  answers g o (reads {es = es} {at = at} e) =
-      let st = readState newCursor table in
-      ap (λ (x : Stage). finished (x .entities) s (x .state)) e
-      ∙ finished-told (givenOf es) at s table (seeks end (arriveEntities es st)) small (arriveEntities-refusal es st) ends (arriveEntities-length es st)
-      (λ k. let f = entities-fill es st (omega arith) in (f .rows ∙ omega arith, f .short, f .front)) (λ k. entities-short es st (omega arith) (omega arith))
-  answers g o (stops h) = finished-refused (g .entities) s (g .state) small (λ w. h .1 (sym (h .0) ∙ w)) ∙ rw (h .0, h .2, h .3)
+pub answers : (table : List ℕ) (end : ℕ) (g : Stage) (o : Outcome ℕ (List Placed)) → Reads table end g o → answered (g .entities) (g .state) ≡ throughTable (o >>= λ es e. ok (givenOf es) e) table
+answers table end g o (reads {es = es} {at = at} e) =
+    let st = readState newCursor table in
+    ap (λ (x : Stage). answered (x .entities) (x .state)) e
+    ∙ answered-told (givenOf es) at table (seeks end (arriveEntities es st)) (arriveEntities-refusal es st) (arriveEntities-length es st)
+    (λ k. let f = entities-fill es st (omega arith) in (f .rows ∙ omega arith, f .front)) (λ k. omega (arith, entities-count es st))
+answers table end g o (stops h) = answered-refused (g .entities) (g .state) (λ w. h .1 (sym (h .0) ∙ w)) ∙ rw (h .0, h .2, h .3)
 
 -- One entry, from what the code's calls answer: n is its length, b whether it is the sentinel
-module _ (s : List ℕ) (g : Stage) (n : ℕ) (q : n ≡ lengthAt s (g .state .cursor .at)) (b : Bool) (e : b ≡ same (drop (g .state .cursor .at + 4) (take (g .state .cursor .at + 4 + n) s)) sentinelBytes) where
+module _ (s : List ℕ) (g : Stage) (n : ℕ) (q : n ≡ numberOr0 s (g .state .cursor .at)) (b : Bool) (e : b ≡ same (drop (g .state .cursor .at + 4) (take (g .state .cursor .at + 4 + n) s)) sentinelBytes) where
   pub entry-sentinel : b ≡ true → (c : Cursor) → c ≡ seek (g .state .cursor .at + 4 + n) (g .state .cursor) → stage (readState c (g .state .table)) (g .entities) ≡ pastEntry s g
   unfolding pastEntry
   entry-sentinel k c w = rw (← q, ← e, k, w)
 
   pub entry-entity : b ≡ false → (c : Cursor) → c ≡ seek (g .state .cursor .at + 4) (g .state .cursor) → (r : ReadState) → r ≡ run Entity (take (g .state .cursor .at + 4 + n) s) (readState c (g .state .table))
-      → (d : Cursor) → d ≡ closed (g .state .cursor .at + 4 + n) (r .cursor) → stage (readState d (r .table)) (g .entities + 1) ≡ pastEntry s g
+      → (d : Cursor) → d ≡ finishedAt (g .state .cursor .at + 4 + n) (r .cursor) → stage (readState d (r .table)) (g .entities + 1) ≡ pastEntry s g
   unfolding pastEntry
   entry-entity k c w r v d y =
       let i : run Entity (take (g .state .cursor .at + 4 + n) s) (seeks (g .state .cursor .at + 4) (g .state)) ≡ r = sym (v ∙ rw w) in

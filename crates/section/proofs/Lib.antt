@@ -3,8 +3,9 @@ pub mod Framing
 pub mod Section
 pub mod Refusals
 pub mod Demand3
+pub mod Rest
 pub mod Entries
 pub mod Bytes
 pub mod Sentinel
+pub mod Next
 pub mod Decode
-pub mod Texts

@@ -20,14 +20,16 @@ use Rattle.layout.proofs.BadReads.{not-true, payload-bad, payload-refuses}
 use Rattle.layout.proofs.InBytes.{behind, four-sound, four-complete, number-small}
 use Rattle.section.specs.Derivation.{Item, Placed, sentinelBytes, payload, entries, ProperItems}
 use Rattle.section.specs.Framing.{allZero, boundary, boundaries, framing}
-use Rattle.section.specs.Section.{same, readEntity, readPayload, readPayloads, readSection}
+use Rattle.bytes.specs.Bytes.{same}
+use Rattle.bytes.proofs.Compared.{same-sound}
+use Rattle.section.specs.Section.{readEntity, readPayload, readPayloads, readSection}
 use Rattle.section.specs.Refusals.{framed, Framable, Boundary, BadBoundary, few-remain, length-zero, length-long, FramingRefusal, too-long, bad-boundary, SectionRefusal, bad-framing, bad-payload, WholeFraming}
 use Rattle.section.specs.Answers.{framingEnd, entryPayloads}
 use Rattle.section.specs.Theorems.{Refusal-exact, Exact-framing, Refusal-unique}
 use Rattle.section.proofs.Derivation.{payload-some, payload-small}
 use Rattle.section.specs.Private.{framingFrom}
 use Rattle.section.proofs.Framing.{partAt, partsOf, Span, span-none, span-more, boundaries-sound, framing-start, framing-past, framing-complete, framing-sound, non-zero, not-all-zero, from-few, from-zero, from-long, four-not-zero}
-use Rattle.section.proofs.Section.{IsItem, same-sound, part-there, take-length-there, bytes-take, payload-sound, payload-complete, payloads-sound, entries-framed}
+use Rattle.section.proofs.Section.{IsItem, part-there, take-length-there, bytes-take, payload-sound, payload-complete, payloads-sound, entries-framed}
 
 fails-cond : {S A : Type 0} {Q : ℕ → ℕ → Type 0} (b : Bool) (x y : Outcome S A) → Fails Q x → (b ≡ false → Fails Q y) → Fails Q (cond b x y)
 fails-cond true x y h k = h
@@ -54,8 +56,8 @@ some-left s at z = go (ltb at (length s)) refl
         absurd (omega arith)
 
 -- A length, as it stands and as a number
-length-there : (s : List ℕ) → Bytes s → (at : ℕ) → at + 4 ≤ length s → Stands s (one Number) at (numberAt s at) (at + 4)
-length-there s u at h = record { proper = number-small s u at h; there = (four-sound s u at h, refl) }
+number-there : (s : List ℕ) → Bytes s → (at : ℕ) → at + 4 ≤ length s → Stands s (one Number) at (numberAt s at) (at + 4)
+number-there s u at h = record { proper = number-small s u at h; there = (four-sound s u at h, refl) }
 
 length-is : (s : List ℕ) (at n m : ℕ) → n < 4294967296 → Stand s at (four n) m → (at + 4 ≤ length s) × (numberAt s at ≡ n)
 length-is s at n m h d = let (e, q) = four-complete s at m n h (d .0) in (leb-true _ _ e, q)
@@ -72,7 +74,7 @@ boundaries-bad s u (suc k) at h f =
     fails-cond (allZero (drop at s)) _ _ good λ z.
     fails-need (leb (at + 4) (length s)) 2 at _ (λ e. bad-here s at 2 (few-remain (some-left s at z) (leb-false _ _ e) (non-zero s at z))) λ e₁.
     fails-need (leb 1 (numberAt s at)) 3 at _ (λ e. bad-here s at 3 (zero-there (leb-true _ _ e₁) (omega (arith, leb-false 1 (numberAt s at) e)) z)) λ e₂.
-    fails-need (leb (at + 4 + numberAt s at) (length s)) 4 at _ (λ e. bad-here s at 4 (length-long (length-there s u at (leb-true _ _ e₁)) (leb-false _ _ e))) λ e₃.
+    fails-need (leb (at + 4 + numberAt s at) (length s)) 4 at _ (λ e. bad-here s at 4 (length-long (number-there s u at (leb-true _ _ e₁)) (leb-false _ _ e))) λ e₃.
     let h₁ : at + 4 ≤ length s = leb-true (at + 4) (length s) e₁ in
     let h₂ : 1 ≤ numberAt s at = leb-true 1 (numberAt s at) e₂ in
     let h₃ : at + 4 + numberAt s at ≤ length s = leb-true (at + 4 + numberAt s at) (length s) e₃ in

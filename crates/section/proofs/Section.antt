@@ -1,13 +1,13 @@
 -- A section is accepted exactly if a derivation derives it, with the derivation's entities.
 use Prim.Native.Nat.{ℕ, _+_, _-_, _≤_, _<_}
 use native.Mathlib.Omega.{arith}
-use mathlib.Core.Bool.{true, false, and-eq-true-iff}
+use mathlib.Core.Bool.{false}
 use mathlib.Core.List.{List, [], _∷_, _++_, append-assoc, append-nil, map}
 use mathlib.Core.Path.{_≡_, refl, sym, ap, _∙_}
 use lib.Dec.{leb}
 use lib.ListN.{length, take, drop, replicate, length-append, length-drop, length-take}
 use lib.Seq.{take-append-seam, length-take-le, take-add, drop-at, getD-take}
-use borrow.Author.Tests.{leb-true, eqb-true, le-leb}
+use borrow.Author.Tests.{leb-true, le-leb}
 use Rattle.layout.specs.Written.{four, bytes}
 use Rattle.layout.specs.Entities.{Entity}
 use Rattle.layout.specs.Reading.{Outcome, ok, read}
@@ -18,20 +18,14 @@ use Rattle.layout.proofs.BadReads.{not-true}
 use Rattle.layout.proofs.InBytes.{behind, read-complete, read-sound}
 use Rattle.section.specs.Derivation.{Item, sentinel, entity, Derivation, sentinelBytes, payload, entries, ProperItem, ProperItems, Placed, placed, entitiesOf}
 use Rattle.section.specs.Framing.{framing}
-use Rattle.section.specs.Section.{same, readEntity, readPayload, readPayloads, readSection}
+use Rattle.bytes.specs.Bytes.{same}
+use Rattle.bytes.proofs.Compared.{same-sound}
+use Rattle.section.specs.Section.{readEntity, readPayload, readPayloads, readSection}
 use Rattle.section.specs.Demand3.{Good}
 use Rattle.section.specs.Theorems.{Section-exact}
 use Rattle.section.proofs.Derivation.{payload-some, payload-small, kind-some, append-parts}
 use Rattle.section.specs.Refusals.{framed, Framable}
 use Rattle.section.proofs.Framing.{partAt, partsOf, all-cond, framing-complete, framing-sound}
-
-pub same-sound : (x y : List ℕ) → same x y ≡ true → x ≡ y
-same-sound [] [] e = refl
-same-sound [] (b ∷ y) e = let z : _≡_ {A = ℕ} 0 1 = cc in absurd (omega arith)
-same-sound (a ∷ x) [] e = let z : _≡_ {A = ℕ} 0 1 = cc in absurd (omega arith)
-same-sound (a ∷ x) (b ∷ y) e =
-    let (p, q) = and-eq-true-iff _ _ .0 e in
-    rw (eqb-true a b p, same-sound x y q)
 
 module _ {S A : Type 0} where
   pub all-map : {P Q : A → S → Type 0} {m : Outcome S A} → All P m → ((a : A) (st : S) → P a st → Q a st) → All Q m

@@ -11,13 +11,11 @@ use Rattle.layout.specs.Written.{four}
 use Rattle.layout.specs.Reading.{numberAt}
 use Rattle.layout.specs.Theorems.{Bytes}
 use Rattle.layout.proofs.InBytes.{behind, four-sound, four-complete}
-use Rattle.leaf.specs.State.{lengthAt}
-use Rattle.leaf.proofs.Leaves.{length-there}
+use Rattle.bytes.proofs.Number.{number-there}
 use Rattle.layout.proofs.BadReads.{not-true}
 use Rattle.section.specs.Derivation.{sentinelBytes}
-use Rattle.section.specs.Section.{same}
-use Rattle.section.proofs.Section.{same-sound}
-use Rattle.section.proofs.Bytes.{byte-there, same-not}
+use Rattle.bytes.specs.Bytes.{numberOr0, same}
+use Rattle.bytes.proofs.Compared.{byte-there, same-sound, same-not}
 
 abbrev first : ℕ
 first = 1024
@@ -58,20 +56,20 @@ module _ (s : List ℕ) (begin end : ℕ) (h : begin ≤ end) (k : end ≤ lengt
       }
 
   module _ (u : Bytes s) (l : end - begin ≡ 9) where
-    at-first : lengthAt s begin ≡ numberAt s begin
-    at-first = length-there s begin (omega arith)
+    at-first : numberOr0 s begin ≡ numberAt s begin
+    at-first = number-there s begin (omega arith)
 
-    at-second : lengthAt s (begin + 4) ≡ numberAt s (begin + 4)
-    at-second = length-there s (begin + 4) (omega arith)
+    at-second : numberOr0 s (begin + 4) ≡ numberAt s (begin + 4)
+    at-second = number-there s (begin + 4) (omega arith)
 
-    pub other-first : (n : ℕ) → n ≡ lengthAt s begin → (n ≡ first → ⊥) → false ≡ same part sentinelBytes
+    pub other-first : (n : ℕ) → n ≡ numberOr0 s begin → (n ≡ first → ⊥) → false ≡ same part sentinelBytes
     other-first n e f = sym (not-true (same part sentinelBytes) (λ q. f (e ∙ at-first ∙ there q .one)))
 
-    pub other-second : (n : ℕ) → n ≡ lengthAt s (begin + 4) → (n ≡ second → ⊥) → false ≡ same part sentinelBytes
+    pub other-second : (n : ℕ) → n ≡ numberOr0 s (begin + 4) → (n ≡ second → ⊥) → false ≡ same part sentinelBytes
     other-second n e f = sym (not-true (same part sentinelBytes) (λ q. f (e ∙ at-second ∙ there q .two)))
 
     -- The two numbers are the sentinel's: the last byte tells
-    module _ (n m : ℕ) (e : n ≡ lengthAt s begin) (f : n ≡ first) (g : m ≡ lengthAt s (begin + 4)) (i : m ≡ second) where
+    module _ (n m : ℕ) (e : n ≡ numberOr0 s begin) (f : n ≡ first) (g : m ≡ numberOr0 s (begin + 4)) (i : m ≡ second) where
       whole : part ++ drop end s ≡ four first ++ (four second ++ (getD s (begin + 8) 0 ∷ drop end s))
       whole =
           let x : begin + 4 + 4 ≡ begin + 8 = omega arith in

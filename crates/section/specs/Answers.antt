@@ -15,7 +15,7 @@ use Rattle.section.specs.declared.Framed as declared
 -- Where the padding begins, or the number and place, of each case
 abbrev pub framingOf : declared.Framed → Outcome ℕ (Unit {0})
 framingOf (Whole end) = ok tt end
-framingOf (Refused number place) = refuse number place
+framingOf (Refused refusal) = refuse (refusal .number) (refusal .place)
 
 -- Where the framing ends, without the parts that it finds: 2 to 4
 unfoldable pub framingEnd : List ℕ → Outcome ℕ (Unit {0})

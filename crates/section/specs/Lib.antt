@@ -3,6 +3,8 @@ pub mod Framing
 pub mod Refusals
 pub mod Section
 pub mod Answers
+pub mod Entry
 pub mod Demand3
+pub mod Rest
 pub mod Theorems
 pub mod Private

@@ -1,23 +1,17 @@
 -- The reading of a section, by document 01's refusals 1 to 13 in their order.
 use Prim.Native.Nat.{ℕ}
-use mathlib.Core.Bool.{Bool, true, false, cond, _&&_}
+use mathlib.Core.Bool.{cond}
 use mathlib.Core.List.{List, [], _∷_, _++_}
-use lib.Dec.{leb, eqb}
+use lib.Dec.{leb}
 use lib.ListN.{length, take, drop}
 use Rattle.layout.specs.Layout.{Leaf}
 use Rattle.layout.specs.Entities.{Entity}
 use Rattle.layout.specs.Reading.{Outcome, ok, _>>=_, need, read}
 use Rattle.layout.specs.Answers.{limit, Result, Given}
-use Rattle.layout.specs.ReadAlone.{tell}
+use Rattle.layout.specs.ReadAlone.{throughTable}
+use Rattle.bytes.specs.Bytes.{same}
 use Rattle.section.specs.Derivation.{Placed, sentinelBytes, givenOf}
 use Rattle.section.specs.Framing.{Part, framing}
-
--- The same bytes
-abbrev pub same : List ℕ → List ℕ → Bool
-same [] [] = true
-same [] (y ∷ ys) = false
-same (x ∷ xs) [] = false
-same (x ∷ xs) (y ∷ ys) = eqb x y && same xs ys
 
 -- The leaves of an entity that ends with its payload; else 12, at the first byte that remains
 abbrev pub ended : Part → List Leaf → (end : ℕ) → Outcome ℕ (List Placed)
@@ -48,4 +42,4 @@ sectionGiven s = readSection s >>= λ es end. ok (givenOf es) end
 
 -- The reading of a section through a lent table; 13
 unfoldable pub reading : List ℕ → List ℕ → Result
-reading s table = tell (sectionGiven s) table
+reading s table = throughTable (sectionGiven s) table

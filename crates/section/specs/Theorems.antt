@@ -1,16 +1,12 @@
 -- What is proved of the definitions, as statements. Each comment names the proof, in proofs/.
 use Prim.Native.Nat.{ℕ, _+_, _*_, _≤_}
-use mathlib.Core.List.{List, [], _∷_, _++_, map}
+use mathlib.Core.List.{List, _∷_, _++_, map}
 use mathlib.Core.Logic.{_↔_}
 use mathlib.Core.Path.{_≡_}
 use lib.ListN.{length, replicate}
-use Rattle.layout.specs.Layout.{Leaf, string}
-use Rattle.layout.specs.Written.{bytesOf, rowAt}
 use Rattle.layout.specs.Reading.{ok, refuse}
 use Rattle.layout.specs.Answers.{limit, Result}
 use Rattle.layout.specs.Theorems.{Bytes, Told}
-use Rattle.parts.specs.declared.Row.{Row}
-use Rattle.parts.specs.Parts.{rowText, partOf}
 use Rattle.section.specs.Derivation.{Item, sentinel, Placed, Derivation, entries, derive, placed, totalLeaves, entitiesOf, sentinels, entitySizes}
 use Rattle.section.specs.Section.{readSection, reading}
 use Rattle.section.specs.Answers.{entryPayloads, ExactFraming}
@@ -81,12 +77,3 @@ Sentinel-free =
     (before after : List Item)
     → (placed 0 (before ++ (sentinel ∷ after)) ≡ placed 0 before ++ map (movedBy 13) (placed (length (entries before)) after))
     × (placed 0 (before ++ after) ≡ placed 0 before ++ placed (length (entries before)) after)
-
--- The row of each text of a section that is derived gives that text: `text-found` in Texts.antt.
--- `ls` are the leaves before the text in its entity, so that its row is the one that `rowsFrom` has for it
-abbrev pub Text-found : Type 0
-Text-found =
-    (s : List ℕ) (d : Derivation) → Good s d → (before after : List Placed) (e : Placed) → entitiesOf d ≡ before ++ (e ∷ after)
-    → (ls ms : List Leaf) (t : List ℕ) → e .content ≡ ls ++ (string t ∷ ms)
-    → (row : Row) → row .sort ∷ row .offset ∷ row .value ∷ [] ≡ rowAt (e .at + length (bytesOf ls)) (string t)
-    → partOf s (rowText s row) ≡ t

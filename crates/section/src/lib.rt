@@ -1,20 +1,24 @@
 // The whole section: its framing, then its payloads one after the other, into a lent table.
-use leaf::Answer;
+use layout::LIMIT;
 use leaf::Cursor;
+use table::Answer;
+use table::Refusal;
 ghost use Prim.Native.Nat.{_+_, _≤_};
 ghost use mathlib.Core.Bool.{_&&_};
 ghost use mathlib.Core.Path.{_≡_};
 ghost use lib.ListN.{length, take, drop};
+ghost use Rattle.layout.specs.Reading.{refuse};
 ghost use Rattle.layout.specs.Answers.{limit};
 ghost use Rattle.layout.specs.Theorems.{Bytes};
-ghost use Rattle.leaf.specs.State.{lengthAt};
-ghost use Rattle.leaf.specs.Finish.{resultOf};
+ghost use Rattle.bytes.specs.Bytes.{numberOr0, same};
+ghost use Rattle.table.specs.Answers.{resultOf};
 ghost use Rattle.section.specs.Derivation.{sentinelBytes};
 ghost use Rattle.section.specs.Framing.{allZero};
 ghost use Rattle.section.specs.Answers.{framingOf, framingEnd, entryPayloads, ExactFraming};
-ghost use Rattle.section.specs.Section.{same, reading};
+ghost use Rattle.section.specs.Section.{reading};
 ghost use Rattle.section.specs.Demand3.{Demand3};
-ghost use Rattle.section.specs.Private.{staged, closed, pastEntry, entryEnd, Walked, Walks};
+ghost use Rattle.section.specs.Entry.{staged, pastEntry, entryEnd, readEntry, sentinelAt, pastSentinels};
+ghost use Rattle.section.specs.Private.{Walked, Walks};
 
 // The payload that yields nothing, 00 04 00 00 00 70 67 72 78, as two numbers and a byte.
 const SENTINEL_FIRST: u32 = 0x0000_0400;
@@ -32,13 +36,13 @@ const BLOCK: usize = 64;
 // What the framing comes to: where the padding begins, or a refusal.
 pub enum Framed {
     Whole { end: usize },
-    Refused { number: u32, place: usize },
+    Refused(Refusal),
 }
 
 // What is read so far: where the reading stands, and the entities.
-struct Progress {
-    cursor: Cursor,
-    entities: usize,
+pub struct Progress {
+    pub cursor: Cursor,
+    pub entities: usize,
 }
 
 // What is read, and the boundary up to which the framing is known to be good.
@@ -83,11 +87,8 @@ pub fn entry_payloads(section: &[u8]) -> Framed
     ensures { λ r. ⌜ framingOf r ≡ entryPayloads (now (section .entry)) ⌝ }
     ensures { λ r. ⌜ ExactFraming (now (section .entry)) (framingOf r) ⌝ }
 {
-    if leaf::LIMIT < section.len() {
-        return Framed::Refused {
-            number: 1,
-            place: 0,
-        };
+    if LIMIT < section.len() {
+        return unframed(1, 0);
     }
     framing_from(section, 0)
 }
@@ -106,12 +107,11 @@ fn framing_from(s: &[u8], from: usize) -> Framed
     framing_at(s, at)
 }
 
-// Where the entry at a boundary ends; the boundary itself, if no whole entry stands there.
-fn entry_end(s: &[u8], at: usize) -> usize
-    requires { ⌜ at ≤ length (now s) ⌝ }
+// Where the entry at a place ends; the place itself, if no whole entry stands there.
+pub fn entry_end(s: &[u8], at: usize) -> usize
     ensures { λ r. ⌜ r ≡ entryEnd (now (s .entry)) at ⌝ }
 {
-    let n = leaf::length_at(s, at) as usize;
+    let n = bytes::number_at(s, at) as usize;
     if n == 0 {
         return at;
     }
@@ -130,38 +130,19 @@ fn framing_at(s: &[u8], at: usize) -> Framed
         return Framed::Whole { end: at };
     }
     if s.len() - at < 4 {
-        return Framed::Refused {
-            number: 2,
-            place: at,
-        };
+        return unframed(2, at);
     }
-    if leaf::length_at(s, at) == 0 {
-        return Framed::Refused {
-            number: 3,
-            place: at,
-        };
+    if bytes::number_at(s, at) == 0 {
+        return unframed(3, at);
     }
-    Framed::Refused {
-        number: 4,
-        place: at,
-    }
+    unframed(4, at)
 }
 
-// Whether two slices have the same bytes.
-pub fn same(a: &[u8], b: &[u8]) -> bool
-    ensures { λ r. ⌜ r ≡ same (now (a .entry)) (now (b .entry)) ⌝ }
+// A refusal of the framing.
+fn unframed(number: u32, place: usize) -> Framed
+    ensures { λ r. ⌜ framingOf r ≡ refuse number place ⌝ }
 {
-    if a.len() != b.len() {
-        return false;
-    }
-    let mut i = 0;
-    while i < a.len() {
-        if a[i] != b[i] {
-            return false;
-        }
-        i += 1;
-    }
-    true
+    Framed::Refused(Refusal { number, place })
 }
 
 // Whether the bytes from a place up to another are the sentinel. Most payloads have another length.
@@ -172,35 +153,68 @@ fn is_sentinel(s: &[u8], begin: usize, end: usize) -> bool
     if end - begin != SENTINEL_SIZE {
         return false;
     }
-    if leaf::length_at(s, begin) != SENTINEL_FIRST {
+    if bytes::number_at(s, begin) != SENTINEL_FIRST {
         return false;
     }
-    if leaf::length_at(s, begin + 4) != SENTINEL_SECOND {
+    if bytes::number_at(s, begin + 4) != SENTINEL_SECOND {
         return false;
     }
     let last = begin + 8;
     s[last] == SENTINEL_LAST
 }
 
-// The cursor behind an entity: refused, if the payload goes on.
-fn close(c: Cursor, end: usize) -> Cursor
-    ensures { λ r. ⌜ r ≡ closed end c ⌝ }
+// Whether the sentinel's entry stands at a place.
+fn sentinel_at(s: &[u8], at: usize) -> bool
+    ensures { λ r. ⌜ r ≡ sentinelAt (now (s .entry)) at ⌝ }
 {
-    if c.at < end {
-        return c.refused(12, c.at);
+    let end = entry_end(s, at);
+    if end <= at {
+        return false;
     }
-    c
+    is_sentinel(s, at + 4, end)
 }
 
-// One entry, where the cursor stands: the sentinel, which yields nothing, or an entity.
-fn read_entry(p: Progress, s: &[u8], t: &mut [u32]) -> Progress
-    requires { ⌜ p .cursor .at + 4 + lengthAt (now s) (p .cursor .at) ≤ length (now s) ⌝ ∗ ⌜ length (now s) ≤ limit ⌝ ∗ ⌜ p .entities ≤ limit ⌝ ∗ ⌜ Bytes (now s) ⌝ }
+// Past the sentinels that stand one after the other from a place on: where the next entity's entry begins, if one follows.
+pub fn past_sentinels(s: &[u8], from: usize) -> usize
+    ensures { λ r. ⌜ r ≡ pastSentinels (now (s .entry)) from ⌝ }
+{
+    let mut at = from;
+    while sentinel_at(s, at) {
+        at = entry_end(s, at);
+    }
+    at
+}
+
+// One entry, where the cursor stands: the sentinel, which yields nothing, or an entity. Nothing is read after a refusal, where no
+// whole entry stands, of too many bytes, and after too many entities.
+pub fn read_entry(p: Progress, s: &[u8], t: &mut [u32]) -> Progress
+    ensures { λ r. ⌜ staged r (now (t .exit)) ≡ readEntry (now (s .entry)) (staged p (now (t .entry))) ⌝ }
+{
+    let cursor = p.cursor;
+    if cursor.refusal != 0 {
+        return p;
+    }
+    if LIMIT < s.len() {
+        return p;
+    }
+    if LIMIT < p.entities {
+        return p;
+    }
+    if entry_end(s, cursor.at) <= cursor.at {
+        return p;
+    }
+    read_whole_entry(p, s, t)
+}
+
+// The same where a whole entry stands.
+fn read_whole_entry(p: Progress, s: &[u8], t: &mut [u32]) -> Progress
+    requires { ⌜ p .cursor .at + 4 + numberOr0 (now s) (p .cursor .at) ≤ length (now s) ⌝ ∗ ⌜ length (now s) ≤ limit ⌝ ∗ ⌜ p .entities ≤ limit ⌝ ∗ ⌜ Bytes (now s) ⌝ }
     ensures { λ r. ⌜ staged r (now (t .exit)) ≡ pastEntry (now (s .entry)) (staged p (now (t .entry))) ⌝ }
 {
     let c = p.cursor;
     let entities = p.entities;
     let begin = c.at + 4;
-    let end = begin + leaf::length_at(s, c.at) as usize;
+    let end = begin + bytes::number_at(s, c.at) as usize;
     if is_sentinel(s, begin, end) {
         return Progress {
             cursor: c.seek(end),
@@ -209,7 +223,7 @@ fn read_entry(p: Progress, s: &[u8], t: &mut [u32]) -> Progress
     }
     let c = entity::read_entity(c.seek(begin), &s[..end], t);
     Progress {
-        cursor: close(c, end),
+        cursor: c.finish(end),
         entities: entities + 1,
     }
 }
@@ -226,7 +240,7 @@ fn read_entries(s: &[u8], t: &mut [u32]) -> Walk
     let mut at = 0;
     let mut end = entry_end(s, at);
     while at < end {
-        p = read_entry(p, s, t);
+        p = read_whole_entry(p, s, t);
         let c = p.cursor;
         if c.refusal != 0 {
             return Walk {
@@ -248,19 +262,16 @@ pub fn decode_entities(section: &[u8], table: &mut [u32]) -> Answer
     ensures { λ r. ⌜ resultOf r (now (table .exit)) ≡ reading (now (section .entry)) (now (table .entry)) ⌝ }
     ensures { λ r. ⌜ Demand3 (now (section .entry)) (now (table .entry)) (resultOf r (now (table .exit))) ⌝ }
 {
-    if leaf::LIMIT < section.len() {
-        return Cursor::new().finish(section, table, 0);
+    if LIMIT < section.len() {
+        return table::refuse(table, 1, 0);
     }
     let walk = read_entries(section, table);
     match framing_from(section, walk.at) {
-        Framed::Refused { number, place } => {
-            let c = Cursor::new().refused(number, place);
-            c.finish(section, table, 0)
-        }
-        Framed::Whole { end } => {
+        Framed::Refused(refusal) => table::refuse(table, refusal.number, refusal.place),
+        Framed::Whole { end: _ } => {
             let p = walk.progress;
             let c = p.cursor;
-            c.finish(&section[..end], table, p.entities)
+            c.answer(table, p.entities)
         }
     }
 }

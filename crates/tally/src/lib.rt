@@ -1,7 +1,7 @@
 // The tally of whole-section readings.
-use leaf::Answer;
+use table::Answer;
 ghost use mathlib.Core.Path.{_≡_};
-ghost use Rattle.leaf.specs.Finish.{answerOf, resultOf};
+ghost use Rattle.table.specs.Answers.{answerOf, resultOf};
 ghost use Rattle.section.specs.Section.{reading};
 ghost use Rattle.section.specs.Demand3.{Demand3};
 ghost use Rattle.tally.specs.Tally.{oneMore, noReadings, tallied};
@@ -44,10 +44,7 @@ impl Tally {
                 accepted: one_more(self.accepted),
                 refused: self.refused,
             },
-            Answer::Refused {
-                number: _,
-                place: _,
-            } => Tally {
+            Answer::Refused(_) => Tally {
                 accepted: self.accepted,
                 refused: one_more(self.refused),
             },

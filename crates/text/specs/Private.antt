@@ -2,6 +2,7 @@
 use mathlib.Core.List.{List}
 use mathlib.Core.Path.{_≡_}
 use Prim.Native.Nat.{ℕ, _≤_, _<_, _/_, _%_, _^_}
+use lib.Bits.{bitAnd}
 use lib.ListN.{getD, take}
 use Rattle.text.specs.Walk.{State, start, tail-1, tail-2, tail-3, after-E0, after-ED, after-F0, after-F4, failed, step, wantedAfter}
 
@@ -29,6 +30,11 @@ Reaches s a e x r = (p : State) → x ≡ code (wantedAfter p (take a s)) → r 
 -- The bytes of s from the place a up to e are below 128
 abbrev pub Ascii : List ℕ → ℕ → ℕ → Type 0
 Ascii s a e = (k : ℕ) → a ≤ k → k < e → getD s k 0 < 128
+
+-- r has the bytes of s from the place a up to e as one number of so many bits: where it has no bit of the mask, they are ASCII
+pub record Packs (s : List ℕ) (a e bits mask r : ℕ) : Type 0 where
+  pub fits : r < 2 ^ bits
+  pub ascii : bitAnd r mask ≡ 0 → Ascii s a e
 
 -- q is the state whose code is x, if any state has that code
 abbrev pub Decodes : ℕ → State → Type 0

@@ -7,7 +7,7 @@ ghost use lib.ListN.{length};
 ghost use Rattle.text.specs.Rfc3629.{Utf8};
 ghost use Rattle.text.specs.Walk.{wantedAfter, utf8};
 ghost use Rattle.text.specs.States.{stateOf};
-ghost use Rattle.text.specs.Private.{code, Encodes, Reaches, Decodes, Ascii};
+ghost use Rattle.text.specs.Private.{code, Encodes, Reaches, Decodes, Ascii, Packs};
 
 mod tables;
 
@@ -161,32 +161,30 @@ fn high_bits_of_16(s: &[u8], a: usize) -> u64
     high_bits(s, a) | high_bits(s, a + 8)
 }
 
-// Eight bytes as one number, which the compiler takes at once.
 fn high_bits(s: &[u8], a: usize) -> u64
     requires { ⌜ a + 8 ≤ length (now s) ⌝ }
     ensures { λ r. ⌜ (r ≡ 0 → Ascii (now (s .entry)) a (a + 8)) ⌝ }
 {
-    let b = a + 1;
-    let c = a + 2;
-    let d = a + 3;
     let e = a + 4;
-    let f = a + 5;
-    let g = a + 6;
-    let h = a + 7;
-    let low = wide(s[a]) + 0x100 * wide(s[b]) + 0x1_0000 * wide(s[c]) + 0x100_0000 * wide(s[d]);
-    let high = wide(s[e]) + 0x100 * wide(s[f]) + 0x1_0000 * wide(s[g]) + 0x100_0000 * wide(s[h]);
-    (low + 0x1_0000_0000 * high) & 0x8080_8080_8080_8080
+    (word(s, a) + 0x1_0000_0000 * word(s, e)) & 0x8080_8080_8080_8080
 }
 
 fn high_bits_of_4(s: &[u8], a: usize) -> u64
     requires { ⌜ a + 4 ≤ length (now s) ⌝ }
     ensures { λ r. ⌜ (r ≡ 0 → Ascii (now (s .entry)) a (a + 4)) ⌝ }
 {
+    word(s, a) & 0x8080_8080
+}
+
+// The four bytes from the place a on as one number. The compiler takes them at once, and the eight of two such numbers too.
+fn word(s: &[u8], a: usize) -> u64
+    requires { ⌜ a + 4 ≤ length (now s) ⌝ }
+    ensures { λ r. ⌜ Packs (now (s .entry)) a (a + 4) 32 0x8080_8080 r ⌝ }
+{
     let b = a + 1;
     let c = a + 2;
     let d = a + 3;
-    let word = wide(s[a]) + 0x100 * wide(s[b]) + 0x1_0000 * wide(s[c]) + 0x100_0000 * wide(s[d]);
-    word & 0x8080_8080
+    wide(s[a]) + 0x100 * wide(s[b]) + 0x1_0000 * wide(s[c]) + 0x100_0000 * wide(s[d])
 }
 
 fn wide(x: u8) -> u64

@@ -65,12 +65,12 @@ pub fn read_aggregate_type_list(c: Cursor, s: &[u8], t: &mut [u32]) -> Cursor
 
 // Some used types, each behind its name. One is read as a list of one, so that only this loop calls `one_used_type`: the
 // compiler then holds the cursor in registers, and, since the part of the bytes is made here, their place and length too.
-fn read_used_types(c: Cursor, s: &[u8], t: &mut [u32], name: Name, count: usize) -> Cursor
+fn read_used_types(c: Cursor, s: &[u8], t: &mut [u32], name: Name, count: u32) -> Cursor
     ensures { λ r. ⌜ readState r (now (t .exit)) ≡ run (times count (named name then UsedType)) (now (s .entry)) (readState c (now (t .entry))) ⌝ }
 {
     let n = s.len();
-    let mut c = c.anew();
-    let mut i: usize = 0;
+    let mut c = c.copy();
+    let mut i: u32 = 0;
     while i < count {
         if c.refusal != 0 {
             return c;
@@ -91,7 +91,7 @@ fn one_used_type(c: Cursor, s: &[u8], t: &mut [u32], name: Name) -> Cursor
     let c = c.read_bool(s, t); // variadic
     let c = c.read_option_str(s, t); // default
     let c = c.read_bool(s, t); // optional
-    metadata::read_function_metadata_type(c.anew(), s, t) // metadata
+    metadata::read_function_metadata_type(c.copy(), s, t) // metadata
 }
 
 // What stands before a used type.

@@ -31,11 +31,11 @@ pub fn sql_mapping(w: EntryWriter, rows: &[u32], text: &[u8]) -> EntryWriter
 
 // Some mappings. One is taken as a list of one, so that only this loop calls `one_sql_mapping`: the compiler then holds the
 // writer in registers.
-fn sql_mappings(w: EntryWriter, rows: &[u32], text: &[u8], count: usize) -> EntryWriter
+fn sql_mappings(w: EntryWriter, rows: &[u32], text: &[u8], count: u32) -> EntryWriter
     ensures { λ r. ⌜ r ≡ consume (times count SqlMapping) (now (rows .entry)) (now (text .entry)) w ⌝ }
 {
     let mut w = w;
-    let mut i: usize = 0;
+    let mut i: u32 = 0;
     while i < count {
         if w.refusal != 0 {
             return w;

@@ -31,7 +31,9 @@ same-length c = search (needs, c .before .before .before .loop .inv .0)
 
 returns : tie.Need-returns Inv-loop μ-loop
 unfolding ExternArgList
-returns c = list-in _ _ _ _ _ (c .before .before .before .before .before .before .read-count .ensures) (loop-refused _ _ _ _ (c .before .before .before .loop .inv .1) (c .if1 .taken))
+returns c =
+    let read-count = c .before .before .before .before .before .before .read-count in
+    list-in _ _ _ _ _ (read-count .ensures) (loop-refused _ _ _ _ (c .before .before .before .loop .inv .1) (c .if1 .taken))
 
 read-extern-arg-requires : tie.Need-read-extern-arg-requires Inv-loop μ-loop
 read-extern-arg-requires c κs = tt
@@ -43,7 +45,10 @@ loop-less : tie.Need-loop-less Inv-loop μ-loop
 loop-less c = omega arith
 
 loop-again : tie.Need-loop-again Inv-loop μ-loop
-loop-again c = (search (needs, c .before .before .before .before .before .before .before .loop .inv .0), loop-on _ _ ExternArg _ _ _ _ (c .before .before .before .before .before .before .before .loop .inv .1) (c .before .before .before .before .before .before .loop-test .taken) (c .before .before .read-extern-arg .ensures))
+loop-again c =
+    let loop = c .before .before .before .before .before .before .before .loop in
+    let loop-test = c .before .before .before .before .before .before .loop-test in
+    (search (needs, loop .inv .0), loop-on _ _ ExternArg _ _ _ _ (loop .inv .1) (loop-test .taken) (c .before .before .read-extern-arg .ensures))
 
 same-length-2 : tie.Need-same-length-2 Inv-loop μ-loop
 same-length-2 c = search needs

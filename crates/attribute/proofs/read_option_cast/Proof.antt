@@ -12,11 +12,15 @@ read-cast-requires : tie.Need-read-cast-requires
 read-cast-requires c κs = tt
 
 same-length : tie.Need-same-length
-same-length c = c .before .before .read-cast .kept .1 .1 .0 ∙ c .before .before .before .before .before .before .before .before .read-bool .kept .1 .1 .0
+same-length c =
+    let read-bool = c .before .before .before .before .before .before .before .before .read-bool in
+    c .before .before .read-cast .kept .1 .1 .0 ∙ read-bool .kept .1 .1 .0
 
 returns : tie.Need-returns
 unfolding OptionCast
-returns c = may-in _ _ _ _ _ (c .before .before .before .before .before .before .before .before .read-bool .ensures) (c .before .before .before .before .if1 .taken) (c .before .before .read-cast .ensures)
+returns c =
+    let read-bool = c .before .before .before .before .before .before .before .before .read-bool in
+    may-in _ _ _ _ _ (read-bool .ensures) (c .before .before .before .before .if1 .taken) (c .before .before .read-cast .ensures)
 
 same-length-2 : tie.Need-same-length-2
 same-length-2 c = c .before .before .before .before .read-bool .kept .1 .1 .0

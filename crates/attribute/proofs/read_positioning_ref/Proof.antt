@@ -18,14 +18,17 @@ refused-requires : tie.Need-refused-requires
 refused-requires c κs = tt
 
 same-length : tie.Need-same-length
-same-length c = c .before .before .read-str .kept .1 .1 .0 ∙ c .before .before .before .before .before .before .before .before .read-u8 .kept .1 .1 .0
+same-length c =
+    let read-u8 = c .before .before .before .before .before .before .before .before .read-u8 in
+    c .before .before .read-str .kept .1 .1 .0 ∙ read-u8 .kept .1 .1 .0
 
 returns : tie.Need-returns
 unfolding PositioningRef
 returns c =
+    let if1 = c .before .before .before .before .before .if1 in
     let e = c .before .before .before .before .before .before .before .before .read-u8 .ensures in
     let q = c .before .before .read-str .ensures in
-    of-two 1 _ (c .before .before .before .before .before .if1 .left) (c .before .before .before .before .if2 .taken) (λ h. tags-in positioningRefs 1 _ _ _ _ e h refl q) (λ h. tags-in positioningRefs 2 _ _ _ _ e h refl q)
+    of-two 1 _ (if1 .left) (c .before .before .before .before .if2 .taken) (λ h. tags-in positioningRefs 1 _ _ _ _ e h refl q) (λ h. tags-in positioningRefs 2 _ _ _ _ e h refl q)
 
 same-length-2 : tie.Need-same-length-2
 same-length-2 c = c .before .before .before .before .read-u8 .kept .1 .1 .0

@@ -31,7 +31,9 @@ same-length c = search (needs, c .before .before .before .loop .inv .0)
 
 returns : tie.Need-returns Inv-loop μ-loop
 unfolding PositioningRefList
-returns c = list-in _ _ _ _ _ (c .before .before .before .before .before .before .read-count .ensures) (loop-refused _ _ _ _ (c .before .before .before .loop .inv .1) (c .if1 .taken))
+returns c =
+    let read-count = c .before .before .before .before .before .before .read-count in
+    list-in _ _ _ _ _ (read-count .ensures) (loop-refused _ _ _ _ (c .before .before .before .loop .inv .1) (c .if1 .taken))
 
 read-positioning-ref-requires : tie.Need-read-positioning-ref-requires Inv-loop μ-loop
 read-positioning-ref-requires c κs = tt
@@ -43,7 +45,10 @@ loop-less : tie.Need-loop-less Inv-loop μ-loop
 loop-less c = omega arith
 
 loop-again : tie.Need-loop-again Inv-loop μ-loop
-loop-again c = (search (needs, c .before .before .before .before .before .before .before .loop .inv .0), loop-on _ _ PositioningRef _ _ _ _ (c .before .before .before .before .before .before .before .loop .inv .1) (c .before .before .before .before .before .before .loop-test .taken) (c .before .before .read-positioning-ref .ensures))
+loop-again c =
+    let loop = c .before .before .before .before .before .before .before .loop in
+    let loop-test = c .before .before .before .before .before .before .loop-test in
+    (search (needs, loop .inv .0), loop-on _ _ PositioningRef _ _ _ _ (loop .inv .1) (loop-test .taken) (c .before .before .read-positioning-ref .ensures))
 
 same-length-2 : tie.Need-same-length-2 Inv-loop μ-loop
 same-length-2 c = search needs

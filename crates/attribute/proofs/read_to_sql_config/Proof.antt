@@ -12,11 +12,15 @@ read-option-str-requires : tie.Need-read-option-str-requires
 read-option-str-requires c κs = tt
 
 same-length : tie.Need-same-length
-same-length c = c .before .before .read-option-str .kept .1 .1 .0 ∙ c .before .before .before .before .before .before .read-bool .kept .1 .1 .0
+same-length c =
+    let read-bool = c .before .before .before .before .before .before .read-bool in
+    c .before .before .read-option-str .kept .1 .1 .0 ∙ read-bool .kept .1 .1 .0
 
 returns : tie.Need-returns
 unfolding ToSqlConfig
-returns c = then-in _ _ _ _ _ _ (c .before .before .before .before .before .before .read-bool .ensures) (c .before .before .read-option-str .ensures)
+returns c =
+    let read-bool = c .before .before .before .before .before .before .read-bool in
+    then-in _ _ _ _ _ _ (read-bool .ensures) (c .before .before .read-option-str .ensures)
 
 pub read-to-sql-config-spec : {M : Type 1} → statement M
 read-to-sql-config-spec =

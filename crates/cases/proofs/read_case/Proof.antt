@@ -30,7 +30,9 @@ array-share-prefix-head : tie.Need-array-share-prefix-head
 array-share-prefix-head c = search needs
 
 slice-aggregate-parse-numbers : tie.Need-slice-aggregate-parse-numbers
-slice-aggregate-parse-numbers c = sym (length-take-le 5 (c .before .before .before .before .before .read-full .last .1 .0) (search needs))
+slice-aggregate-parse-numbers c =
+    let read-full-last = c .before .before .before .before .before .read-full .last in
+    sym (length-take-le 5 (read-full-last .1 .0) (search needs))
 
 slice-aggregate-parse-numbers-2 : tie.Need-slice-aggregate-parse-numbers-2
 slice-aggregate-parse-numbers-2 c = search needs

@@ -12,11 +12,15 @@ read-declared-sql-requires : tie.Need-read-declared-sql-requires
 read-declared-sql-requires c κs = tt
 
 same-length : tie.Need-same-length
-same-length c = c .before .before .read-declared-sql .kept .1 .1 .0 ∙ c .before .before .before .before .before .before .read-str .kept .1 .1 .0
+same-length c =
+    let read-str = c .before .before .before .before .before .before .read-str in
+    c .before .before .read-declared-sql .kept .1 .1 .0 ∙ read-str .kept .1 .1 .0
 
 returns : tie.Need-returns
 unfolding DeclaredType
-returns c = then-in _ _ _ _ _ _ (c .before .before .before .before .before .before .read-str .ensures) (c .before .before .read-declared-sql .ensures)
+returns c =
+    let read-str = c .before .before .before .before .before .before .read-str in
+    then-in _ _ _ _ _ _ (read-str .ensures) (c .before .before .read-declared-sql .ensures)
 
 pub read-declared-type-spec : {M : Type 1} → statement M
 read-declared-type-spec =

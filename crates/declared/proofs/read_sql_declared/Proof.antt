@@ -27,7 +27,9 @@ same-length c = search needs
 
 returns : tie.Need-returns
 unfolding SqlDeclared
-returns c = after-in text sqlDeclareds 3 _ _ _ _ _ (c .before .before .before .before .before .before .before .read-u8 .ensures) (c .before .before .before .read-str .ensures) (c .match .keys1) refl (drive-nothing _ _)
+returns c =
+    let read-u8 = c .before .before .before .before .before .before .before .read-u8 in
+    after-in text sqlDeclareds 3 _ _ _ _ _ (read-u8 .ensures) (c .before .before .before .read-str .ensures) (c .match .keys1) refl (drive-nothing _ _)
 
 same-length-2 : tie.Need-same-length-2
 same-length-2 c = search needs
@@ -35,17 +37,21 @@ same-length-2 c = search needs
 returns-2 : tie.Need-returns-2
 unfolding SqlDeclared
 returns-2 c =
+    let if1 = c .before .before .before .before .before .if1 in
     let e = c .before .before .before .before .before .before .before .before .before .before .before .before .before .read-u8 .ensures in
     let f = c .before .before .before .before .before .before .before .before .before .read-str .ensures in
     let q = c .before .before .read-declared-type .ensures in
-    of-two 1 _ (c .before .before .before .before .before .if1 .left) (c .before .before .before .before .if2 .taken) (λ h. after-in text sqlDeclareds 1 _ _ _ _ _ e f h refl q) (λ h. after-in text sqlDeclareds 2 _ _ _ _ _ e f h refl q)
+    of-two 1 _ (if1 .left) (c .before .before .before .before .if2 .taken) (λ h. after-in text sqlDeclareds 1 _ _ _ _ _ e f h refl q) (λ h. after-in text sqlDeclareds 2 _ _ _ _ _ e f h refl q)
 
 same-length-3 : tie.Need-same-length-3
 same-length-3 c = search needs
 
 returns-3 : tie.Need-returns-3
 unfolding SqlDeclared
-returns-3 c = after-wrong text sqlDeclareds _ _ _ _ _ (c .before .before .before .before .before .before .before .before .before .read-u8 .ensures) (c .before .before .before .before .before .read-str .ensures) (⊎-elim (λ w. omega arith) (λ w. omega arith) (c .before .if1 .came)) (rw (c .refused .ensures))
+returns-3 c =
+    let read-u8-ensures = c .before .before .before .before .before .before .before .before .before .read-u8 .ensures in
+    let read-str-ensures = c .before .before .before .before .before .read-str .ensures in
+    after-wrong text sqlDeclareds _ _ _ _ _ read-u8-ensures read-str-ensures (⊎-elim (λ w. omega arith) (λ w. omega arith) (c .before .if1 .came)) (rw (c .refused .ensures))
 
 pub read-sql-declared-spec : {M : Type 1} → statement M
 read-sql-declared-spec =

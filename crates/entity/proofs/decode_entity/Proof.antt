@@ -2,7 +2,7 @@
 use native.Mathlib.Omega.{arith}
 use borrow.Author.Needs.{needs}
 use denote.Ref.{now}
-use Rattle.leaf.proofs.Finish.{decoded}
+use Rattle.leaf.proofs.Answered.{decoded}
 use Rattle.layout.specs.Entities.{Entity}
 use Rattle.entity.proofs.decode_entity.Statement.{statement}
 use Rattle.entity.proofs.decode_entity.Tie as tie
@@ -13,15 +13,20 @@ new-requires c κs = tt
 read-entity-requires : tie.Need-read-entity-requires
 read-entity-requires c κs = tt
 
-finish-requires : tie.Need-finish-requires
-finish-requires c κs = tt
+answer-alone-requires : tie.Need-answer-alone-requires
+answer-alone-requires c κs = tt
 
 same-length : tie.Need-same-length
 same-length c = search needs
 
 returns : tie.Need-returns
-returns c = decoded Entity 1 (now (c .before .before .before .before .before .before .before .before .before .before .before .args .payload)) (now (c .before .before .before .before .before .before .before .before .before .before .before .args .t)) _ _ _ (λ i h. omega (arith, c .before .before .before .before .before .before .before .before .before .before .shared-slice-known .given i)) (c .before .before .before .before .before .before .before .before .new .ensures) (c .before .before .before .before .before .before .read-entity .ensures) (c .before .before .finish .ensures)
+returns c =
+    let args = c .before .before .before .before .before .before .before .before .before .before .before .args in
+    let shared-slice-known-given = c .before .before .before .before .before .before .before .before .before .before .shared-slice-known .given in
+    let new-ensures = c .before .before .before .before .before .before .before .before .new .ensures in
+    let read-entity-ensures = c .before .before .before .before .before .before .read-entity .ensures in
+    decoded Entity 1 (now (args .payload)) (now (args .t)) _ _ _ (λ i h. omega (arith, shared-slice-known-given i)) new-ensures read-entity-ensures (c .before .before .answer-alone .ensures)
 
 pub decode-entity-spec : {M : Type 1} → statement M
 decode-entity-spec =
-    tie.close (tie.spec new-requires read-entity-requires finish-requires same-length returns)
+    tie.close (tie.spec new-requires read-entity-requires answer-alone-requires same-length returns)

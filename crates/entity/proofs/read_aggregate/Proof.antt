@@ -25,11 +25,23 @@ read-to-sql-config-requires : tie.Need-read-to-sql-config-requires
 read-to-sql-config-requires c κs = tt
 
 same-length : tie.Need-same-length
-same-length c = c .before .before .read-to-sql-config .kept .1 .1 .0 ∙ c .before .before .before .before .before .before .read-aggregate-options .kept .1 .1 .0 ∙ c .before .before .before .before .before .before .before .before .before .before .read-moving-aggregate .kept .1 .1 .0 ∙ c .before .before .before .before .before .before .before .before .before .before .before .before .before .before .read-aggregate-functions .kept .1 .1 .0 ∙ c .before .before .before .before .before .before .before .before .before .before .before .before .before .before .before .before .before .before .read-aggregate-types .kept .1 .1 .0 ∙ c .before .before .before .before .before .before .before .before .before .before .before .before .before .before .before .before .before .before .before .before .before .before .read-aggregate-name .kept .1 .1 .0
+same-length c =
+    let read-aggregate-name = c .before .before .before .before .before .before .before .before .before .before .before .before .before .before .before .before .before .before .before .before .before .before .read-aggregate-name in
+    let read-aggregate-types = c .before .before .before .before .before .before .before .before .before .before .before .before .before .before .before .before .before .before .read-aggregate-types in
+    let read-aggregate-functions = c .before .before .before .before .before .before .before .before .before .before .before .before .before .before .read-aggregate-functions in
+    let read-moving-aggregate = c .before .before .before .before .before .before .before .before .before .before .read-moving-aggregate in
+    let read-aggregate-options = c .before .before .before .before .before .before .read-aggregate-options in
+    c .before .before .read-to-sql-config .kept .1 .1 .0 ∙ read-aggregate-options .kept .1 .1 .0 ∙ read-moving-aggregate .kept .1 .1 .0 ∙ read-aggregate-functions .kept .1 .1 .0 ∙ read-aggregate-types .kept .1 .1 .0 ∙ read-aggregate-name .kept .1 .1 .0
 
 returns : tie.Need-returns
 unfolding drive Aggregate AggregateName AggregateTypes AggregateFunctions MovingAggregate AggregateOptions
-returns c = cc (c .before .before .before .before .before .before .before .before .before .before .before .before .before .before .before .before .before .before .before .before .before .before .read-aggregate-name .ensures, c .before .before .before .before .before .before .before .before .before .before .before .before .before .before .before .before .before .before .read-aggregate-types .ensures, c .before .before .before .before .before .before .before .before .before .before .before .before .before .before .read-aggregate-functions .ensures, c .before .before .before .before .before .before .before .before .before .before .read-moving-aggregate .ensures, c .before .before .before .before .before .before .read-aggregate-options .ensures, c .before .before .read-to-sql-config .ensures)
+returns c =
+    let read-aggregate-name = c .before .before .before .before .before .before .before .before .before .before .before .before .before .before .before .before .before .before .before .before .before .before .read-aggregate-name in
+    let read-aggregate-types = c .before .before .before .before .before .before .before .before .before .before .before .before .before .before .before .before .before .before .read-aggregate-types in
+    let read-aggregate-functions = c .before .before .before .before .before .before .before .before .before .before .before .before .before .before .read-aggregate-functions in
+    let read-moving-aggregate = c .before .before .before .before .before .before .before .before .before .before .read-moving-aggregate in
+    let read-aggregate-options = c .before .before .before .before .before .before .read-aggregate-options in
+    cc (read-aggregate-name .ensures, read-aggregate-types .ensures, read-aggregate-functions .ensures, read-moving-aggregate .ensures, read-aggregate-options .ensures, c .before .before .read-to-sql-config .ensures)
 
 pub read-aggregate-spec : {M : Type 1} → statement M
 read-aggregate-spec =

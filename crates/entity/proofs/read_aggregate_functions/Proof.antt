@@ -27,11 +27,25 @@ read-option-str-requires-5 : tie.Need-read-option-str-requires-5
 read-option-str-requires-5 c κs = tt
 
 same-length : tie.Need-same-length
-same-length c = c .before .before .read-option-str5 .kept .1 .1 .0 ∙ c .before .before .before .before .before .before .read-option-str4 .kept .1 .1 .0 ∙ c .before .before .before .before .before .before .before .before .before .before .read-option-str3 .kept .1 .1 .0 ∙ c .before .before .before .before .before .before .before .before .before .before .before .before .before .before .read-option-str2 .kept .1 .1 .0 ∙ c .before .before .before .before .before .before .before .before .before .before .before .before .before .before .before .before .before .before .read-option-finalize-modify .kept .1 .1 .0 ∙ c .before .before .before .before .before .before .before .before .before .before .before .before .before .before .before .before .before .before .before .before .before .before .read-option-str .kept .1 .1 .0 ∙ c .before .before .before .before .before .before .before .before .before .before .before .before .before .before .before .before .before .before .before .before .before .before .before .before .before .before .read-str .kept .1 .1 .0
+same-length c =
+    let read-str = c .before .before .before .before .before .before .before .before .before .before .before .before .before .before .before .before .before .before .before .before .before .before .before .before .before .before .read-str in
+    let read-option-str = c .before .before .before .before .before .before .before .before .before .before .before .before .before .before .before .before .before .before .before .before .before .before .read-option-str in
+    let read-option-finalize-modify = c .before .before .before .before .before .before .before .before .before .before .before .before .before .before .before .before .before .before .read-option-finalize-modify in
+    let read-option-str2 = c .before .before .before .before .before .before .before .before .before .before .before .before .before .before .read-option-str2 in
+    let read-option-str3 = c .before .before .before .before .before .before .before .before .before .before .read-option-str3 in
+    let read-option-str4 = c .before .before .before .before .before .before .read-option-str4 in
+    c .before .before .read-option-str5 .kept .1 .1 .0 ∙ read-option-str4 .kept .1 .1 .0 ∙ read-option-str3 .kept .1 .1 .0 ∙ read-option-str2 .kept .1 .1 .0 ∙ read-option-finalize-modify .kept .1 .1 .0 ∙ read-option-str .kept .1 .1 .0 ∙ read-str .kept .1 .1 .0
 
 returns : tie.Need-returns
 unfolding AggregateFunctions
-returns c = then-in _ _ _ _ _ _ (c .before .before .before .before .before .before .before .before .before .before .before .before .before .before .before .before .before .before .before .before .before .before .before .before .before .before .read-str .ensures) (then-in _ _ _ _ _ _ (c .before .before .before .before .before .before .before .before .before .before .before .before .before .before .before .before .before .before .before .before .before .before .read-option-str .ensures) (then-in _ _ _ _ _ _ (c .before .before .before .before .before .before .before .before .before .before .before .before .before .before .before .before .before .before .read-option-finalize-modify .ensures) (then-in _ _ _ _ _ _ (c .before .before .before .before .before .before .before .before .before .before .before .before .before .before .read-option-str2 .ensures) (then-in _ _ _ _ _ _ (c .before .before .before .before .before .before .before .before .before .before .read-option-str3 .ensures) (then-in _ _ _ _ _ _ (c .before .before .before .before .before .before .read-option-str4 .ensures) (c .before .before .read-option-str5 .ensures))))))
+returns c =
+    let read-str = c .before .before .before .before .before .before .before .before .before .before .before .before .before .before .before .before .before .before .before .before .before .before .before .before .before .before .read-str in
+    let read-option-str = c .before .before .before .before .before .before .before .before .before .before .before .before .before .before .before .before .before .before .before .before .before .before .read-option-str in
+    let read-option-finalize-modify = c .before .before .before .before .before .before .before .before .before .before .before .before .before .before .before .before .before .before .read-option-finalize-modify in
+    let read-option-str2 = c .before .before .before .before .before .before .before .before .before .before .before .before .before .before .read-option-str2 in
+    let read-option-str3 = c .before .before .before .before .before .before .before .before .before .before .read-option-str3 in
+    let read-option-str4 = c .before .before .before .before .before .before .read-option-str4 in
+    then-in _ _ _ _ _ _ (read-str .ensures) (then-in _ _ _ _ _ _ (read-option-str .ensures) (then-in _ _ _ _ _ _ (read-option-finalize-modify .ensures) (then-in _ _ _ _ _ _ (read-option-str2 .ensures) (then-in _ _ _ _ _ _ (read-option-str3 .ensures) (then-in _ _ _ _ _ _ (read-option-str4 .ensures) (c .before .before .read-option-str5 .ensures))))))
 
 pub read-aggregate-functions-spec : {M : Type 1} → statement M
 read-aggregate-functions-spec =

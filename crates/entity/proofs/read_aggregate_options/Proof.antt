@@ -15,11 +15,17 @@ read-bool-requires : tie.Need-read-bool-requires
 read-bool-requires c κs = tt
 
 same-length : tie.Need-same-length
-same-length c = c .before .before .read-bool .kept .1 .1 .0 ∙ c .before .before .before .before .before .before .read-option-parallel-option .kept .1 .1 .0 ∙ c .before .before .before .before .before .before .before .before .before .before .read-option-str .kept .1 .1 .0
+same-length c =
+    let read-option-str = c .before .before .before .before .before .before .before .before .before .before .read-option-str in
+    let read-option-parallel-option = c .before .before .before .before .before .before .read-option-parallel-option in
+    c .before .before .read-bool .kept .1 .1 .0 ∙ read-option-parallel-option .kept .1 .1 .0 ∙ read-option-str .kept .1 .1 .0
 
 returns : tie.Need-returns
 unfolding AggregateOptions
-returns c = then-in _ _ _ _ _ _ (c .before .before .before .before .before .before .before .before .before .before .read-option-str .ensures) (then-in _ _ _ _ _ _ (c .before .before .before .before .before .before .read-option-parallel-option .ensures) (c .before .before .read-bool .ensures))
+returns c =
+    let read-option-str = c .before .before .before .before .before .before .before .before .before .before .read-option-str in
+    let read-option-parallel-option = c .before .before .before .before .before .before .read-option-parallel-option in
+    then-in _ _ _ _ _ _ (read-option-str .ensures) (then-in _ _ _ _ _ _ (read-option-parallel-option .ensures) (c .before .before .read-bool .ensures))
 
 pub read-aggregate-options-spec : {M : Type 1} → statement M
 read-aggregate-options-spec =

@@ -24,11 +24,23 @@ read-str-requires-5 : tie.Need-read-str-requires-5
 read-str-requires-5 c κs = tt
 
 same-length : tie.Need-same-length
-same-length c = c .before .before .read-str5 .kept .1 .1 .0 ∙ c .before .before .before .before .before .before .read-u32 .kept .1 .1 .0 ∙ c .before .before .before .before .before .before .before .before .before .before .read-str4 .kept .1 .1 .0 ∙ c .before .before .before .before .before .before .before .before .before .before .before .before .before .before .read-str3 .kept .1 .1 .0 ∙ c .before .before .before .before .before .before .before .before .before .before .before .before .before .before .before .before .before .before .read-str2 .kept .1 .1 .0 ∙ c .before .before .before .before .before .before .before .before .before .before .before .before .before .before .before .before .before .before .before .before .before .before .read-str .kept .1 .1 .0
+same-length c =
+    let read-str = c .before .before .before .before .before .before .before .before .before .before .before .before .before .before .before .before .before .before .before .before .before .before .read-str in
+    let read-str2 = c .before .before .before .before .before .before .before .before .before .before .before .before .before .before .before .before .before .before .read-str2 in
+    let read-str3 = c .before .before .before .before .before .before .before .before .before .before .before .before .before .before .read-str3 in
+    let read-str4 = c .before .before .before .before .before .before .before .before .before .before .read-str4 in
+    let read-u32 = c .before .before .before .before .before .before .read-u32 in
+    c .before .before .read-str5 .kept .1 .1 .0 ∙ read-u32 .kept .1 .1 .0 ∙ read-str4 .kept .1 .1 .0 ∙ read-str3 .kept .1 .1 .0 ∙ read-str2 .kept .1 .1 .0 ∙ read-str .kept .1 .1 .0
 
 returns : tie.Need-returns
 unfolding CustomSqlText
-returns c = then-in _ _ _ _ _ _ (c .before .before .before .before .before .before .before .before .before .before .before .before .before .before .before .before .before .before .before .before .before .before .read-str .ensures) (then-in _ _ _ _ _ _ (c .before .before .before .before .before .before .before .before .before .before .before .before .before .before .before .before .before .before .read-str2 .ensures) (then-in _ _ _ _ _ _ (c .before .before .before .before .before .before .before .before .before .before .before .before .before .before .read-str3 .ensures) (then-in _ _ _ _ _ _ (c .before .before .before .before .before .before .before .before .before .before .read-str4 .ensures) (then-in _ _ _ _ _ _ (c .before .before .before .before .before .before .read-u32 .ensures) (c .before .before .read-str5 .ensures)))))
+returns c =
+    let read-str = c .before .before .before .before .before .before .before .before .before .before .before .before .before .before .before .before .before .before .before .before .before .before .read-str in
+    let read-str2 = c .before .before .before .before .before .before .before .before .before .before .before .before .before .before .before .before .before .before .read-str2 in
+    let read-str3 = c .before .before .before .before .before .before .before .before .before .before .before .before .before .before .read-str3 in
+    let read-str4 = c .before .before .before .before .before .before .before .before .before .before .read-str4 in
+    let read-u32 = c .before .before .before .before .before .before .read-u32 in
+    then-in _ _ _ _ _ _ (read-str .ensures) (then-in _ _ _ _ _ _ (read-str2 .ensures) (then-in _ _ _ _ _ _ (read-str3 .ensures) (then-in _ _ _ _ _ _ (read-str4 .ensures) (then-in _ _ _ _ _ _ (read-u32 .ensures) (c .before .before .read-str5 .ensures)))))
 
 pub read-custom-sql-text-spec : {M : Type 1} → statement M
 read-custom-sql-text-spec =

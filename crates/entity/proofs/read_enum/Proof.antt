@@ -12,8 +12,8 @@ read-name-file-line-requires c κs = tt
 read-type-paths-requires : tie.Need-read-type-paths-requires
 read-type-paths-requires c κs = tt
 
-anew-requires : tie.Need-anew-requires
-anew-requires c κs = tt
+copy-requires : tie.Need-copy-requires
+copy-requires c κs = tt
 
 read-str-list-requires : tie.Need-read-str-list-requires
 read-str-list-requires c κs = tt
@@ -22,11 +22,20 @@ read-to-sql-config-requires : tie.Need-read-to-sql-config-requires
 read-to-sql-config-requires c κs = tt
 
 same-length : tie.Need-same-length
-same-length c = c .before .before .read-to-sql-config .kept .1 .1 .0 ∙ c .before .before .before .before .before .before .read-str-list .kept .1 .1 .0 ∙ c .before .before .before .before .before .before .before .before .before .before .before .read-type-paths .kept .1 .1 .0 ∙ c .before .before .before .before .before .before .before .before .before .before .before .before .before .before .before .read-name-file-line .kept .1 .1 .0
+same-length c =
+    let read-name-file-line = c .before .before .before .before .before .before .before .before .before .before .before .before .before .before .before .read-name-file-line in
+    let read-type-paths = c .before .before .before .before .before .before .before .before .before .before .before .read-type-paths in
+    let read-str-list = c .before .before .before .before .before .before .read-str-list in
+    c .before .before .read-to-sql-config .kept .1 .1 .0 ∙ read-str-list .kept .1 .1 .0 ∙ read-type-paths .kept .1 .1 .0 ∙ read-name-file-line .kept .1 .1 .0
 
 returns : tie.Need-returns
 unfolding drive PostgresEnum NameFileLine TypePaths
-returns c = cc (c .before .before .before .before .before .before .before .before .before .before .before .before .before .before .before .read-name-file-line .ensures, c .before .before .before .before .before .before .before .before .before .before .before .read-type-paths .ensures, c .before .before .before .before .before .before .before .before .anew .ensures, c .before .before .before .before .before .before .read-str-list .ensures, c .before .before .read-to-sql-config .ensures)
+returns c =
+    let read-name-file-line = c .before .before .before .before .before .before .before .before .before .before .before .before .before .before .before .read-name-file-line in
+    let read-type-paths = c .before .before .before .before .before .before .before .before .before .before .before .read-type-paths in
+    let copy = c .before .before .before .before .before .before .before .before .copy in
+    let read-str-list = c .before .before .before .before .before .before .read-str-list in
+    cc (read-name-file-line .ensures, read-type-paths .ensures, copy .ensures, read-str-list .ensures, c .before .before .read-to-sql-config .ensures)
 
 pub read-enum-spec : {M : Type 1} → statement M
 read-enum-spec =
@@ -34,7 +43,7 @@ read-enum-spec =
     (tie.spec
     read-name-file-line-requires
     read-type-paths-requires
-    anew-requires
+    copy-requires
     read-str-list-requires
     read-to-sql-config-requires
     same-length

@@ -19,7 +19,11 @@ read-to-sql-config-requires : tie.Need-read-to-sql-config-requires
 read-to-sql-config-requires c κs = tt
 
 same-length : tie.Need-same-length
-same-length c = c .before .before .read-to-sql-config .kept .1 .1 .0 ∙ c .before .before .before .before .before .before .read-function-options .kept .1 .1 .0 ∙ c .before .before .before .before .before .before .before .before .before .before .read-function-origin .kept .1 .1 .0 ∙ c .before .before .before .before .before .before .before .before .before .before .before .before .before .before .read-function-signature .kept .1 .1 .0
+same-length c =
+    let read-function-signature = c .before .before .before .before .before .before .before .before .before .before .before .before .before .before .read-function-signature in
+    let read-function-origin = c .before .before .before .before .before .before .before .before .before .before .read-function-origin in
+    let read-function-options = c .before .before .before .before .before .before .read-function-options in
+    c .before .before .read-to-sql-config .kept .1 .1 .0 ∙ read-function-options .kept .1 .1 .0 ∙ read-function-origin .kept .1 .1 .0 ∙ read-function-signature .kept .1 .1 .0
 
 returns : tie.Need-returns
 unfolding drive Function FunctionSignature FunctionOrigin FunctionOptions

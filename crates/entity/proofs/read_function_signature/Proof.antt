@@ -24,11 +24,23 @@ read-pg-extern-return-requires : tie.Need-read-pg-extern-return-requires
 read-pg-extern-return-requires c κs = tt
 
 same-length : tie.Need-same-length
-same-length c = c .before .before .read-pg-extern-return .kept .1 .1 .0 ∙ c .before .before .before .before .before .before .read-pg-extern-argument-list .kept .1 .1 .0 ∙ c .before .before .before .before .before .before .before .before .before .before .read-str4 .kept .1 .1 .0 ∙ c .before .before .before .before .before .before .before .before .before .before .before .before .before .before .read-str3 .kept .1 .1 .0 ∙ c .before .before .before .before .before .before .before .before .before .before .before .before .before .before .before .before .before .before .read-str2 .kept .1 .1 .0 ∙ c .before .before .before .before .before .before .before .before .before .before .before .before .before .before .before .before .before .before .before .before .before .before .read-str .kept .1 .1 .0
+same-length c =
+    let read-str = c .before .before .before .before .before .before .before .before .before .before .before .before .before .before .before .before .before .before .before .before .before .before .read-str in
+    let read-str2 = c .before .before .before .before .before .before .before .before .before .before .before .before .before .before .before .before .before .before .read-str2 in
+    let read-str3 = c .before .before .before .before .before .before .before .before .before .before .before .before .before .before .read-str3 in
+    let read-str4 = c .before .before .before .before .before .before .before .before .before .before .read-str4 in
+    let read-pg-extern-argument-list = c .before .before .before .before .before .before .read-pg-extern-argument-list in
+    c .before .before .read-pg-extern-return .kept .1 .1 .0 ∙ read-pg-extern-argument-list .kept .1 .1 .0 ∙ read-str4 .kept .1 .1 .0 ∙ read-str3 .kept .1 .1 .0 ∙ read-str2 .kept .1 .1 .0 ∙ read-str .kept .1 .1 .0
 
 returns : tie.Need-returns
 unfolding FunctionSignature
-returns c = then-in _ _ _ _ _ _ (c .before .before .before .before .before .before .before .before .before .before .before .before .before .before .before .before .before .before .before .before .before .before .read-str .ensures) (then-in _ _ _ _ _ _ (c .before .before .before .before .before .before .before .before .before .before .before .before .before .before .before .before .before .before .read-str2 .ensures) (then-in _ _ _ _ _ _ (c .before .before .before .before .before .before .before .before .before .before .before .before .before .before .read-str3 .ensures) (then-in _ _ _ _ _ _ (c .before .before .before .before .before .before .before .before .before .before .read-str4 .ensures) (then-in _ _ _ _ _ _ (c .before .before .before .before .before .before .read-pg-extern-argument-list .ensures) (c .before .before .read-pg-extern-return .ensures)))))
+returns c =
+    let read-str = c .before .before .before .before .before .before .before .before .before .before .before .before .before .before .before .before .before .before .before .before .before .before .read-str in
+    let read-str2 = c .before .before .before .before .before .before .before .before .before .before .before .before .before .before .before .before .before .before .read-str2 in
+    let read-str3 = c .before .before .before .before .before .before .before .before .before .before .before .before .before .before .read-str3 in
+    let read-str4 = c .before .before .before .before .before .before .before .before .before .before .read-str4 in
+    let read-pg-extern-argument-list = c .before .before .before .before .before .before .read-pg-extern-argument-list in
+    then-in _ _ _ _ _ _ (read-str .ensures) (then-in _ _ _ _ _ _ (read-str2 .ensures) (then-in _ _ _ _ _ _ (read-str3 .ensures) (then-in _ _ _ _ _ _ (read-str4 .ensures) (then-in _ _ _ _ _ _ (read-pg-extern-argument-list .ensures) (c .before .before .read-pg-extern-return .ensures)))))
 
 pub read-function-signature-spec : {M : Type 1} → statement M
 read-function-signature-spec =

@@ -15,11 +15,17 @@ read-u32-requires : tie.Need-read-u32-requires
 read-u32-requires c κs = tt
 
 same-length : tie.Need-same-length
-same-length c = c .before .before .read-u32 .kept .1 .1 .0 ∙ c .before .before .before .before .before .before .read-str2 .kept .1 .1 .0 ∙ c .before .before .before .before .before .before .before .before .before .before .read-str .kept .1 .1 .0
+same-length c =
+    let read-str = c .before .before .before .before .before .before .before .before .before .before .read-str in
+    let read-str2 = c .before .before .before .before .before .before .read-str2 in
+    c .before .before .read-u32 .kept .1 .1 .0 ∙ read-str2 .kept .1 .1 .0 ∙ read-str .kept .1 .1 .0
 
 returns : tie.Need-returns
 unfolding NameFileLine
-returns c = then-in _ _ _ _ _ _ (c .before .before .before .before .before .before .before .before .before .before .read-str .ensures) (then-in _ _ _ _ _ _ (c .before .before .before .before .before .before .read-str2 .ensures) (c .before .before .read-u32 .ensures))
+returns c =
+    let read-str = c .before .before .before .before .before .before .before .before .before .before .read-str in
+    let read-str2 = c .before .before .before .before .before .before .read-str2 in
+    then-in _ _ _ _ _ _ (read-str .ensures) (then-in _ _ _ _ _ _ (read-str2 .ensures) (c .before .before .read-u32 .ensures))
 
 pub read-name-file-line-spec : {M : Type 1} → statement M
 read-name-file-line-spec =

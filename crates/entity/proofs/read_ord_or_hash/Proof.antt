@@ -22,11 +22,21 @@ read-to-sql-config-requires : tie.Need-read-to-sql-config-requires
 read-to-sql-config-requires c κs = tt
 
 same-length : tie.Need-same-length
-same-length c = c .before .before .read-to-sql-config .kept .1 .1 .0 ∙ c .before .before .before .before .before .before .read-str3 .kept .1 .1 .0 ∙ c .before .before .before .before .before .before .before .before .before .before .read-str2 .kept .1 .1 .0 ∙ c .before .before .before .before .before .before .before .before .before .before .before .before .before .before .read-str .kept .1 .1 .0 ∙ c .before .before .before .before .before .before .before .before .before .before .before .before .before .before .before .before .before .before .read-name-file-line .kept .1 .1 .0
+same-length c =
+    let read-name-file-line = c .before .before .before .before .before .before .before .before .before .before .before .before .before .before .before .before .before .before .read-name-file-line in
+    let read-str = c .before .before .before .before .before .before .before .before .before .before .before .before .before .before .read-str in
+    let read-str2 = c .before .before .before .before .before .before .before .before .before .before .read-str2 in
+    let read-str3 = c .before .before .before .before .before .before .read-str3 in
+    c .before .before .read-to-sql-config .kept .1 .1 .0 ∙ read-str3 .kept .1 .1 .0 ∙ read-str2 .kept .1 .1 .0 ∙ read-str .kept .1 .1 .0 ∙ read-name-file-line .kept .1 .1 .0
 
 returns : tie.Need-returns
 unfolding drive OrdOrHash NameFileLine
-returns c = cc (c .before .before .before .before .before .before .before .before .before .before .before .before .before .before .before .before .before .before .read-name-file-line .ensures, c .before .before .before .before .before .before .before .before .before .before .before .before .before .before .read-str .ensures, c .before .before .before .before .before .before .before .before .before .before .read-str2 .ensures, c .before .before .before .before .before .before .read-str3 .ensures, c .before .before .read-to-sql-config .ensures)
+returns c =
+    let read-name-file-line = c .before .before .before .before .before .before .before .before .before .before .before .before .before .before .before .before .before .before .read-name-file-line in
+    let read-str = c .before .before .before .before .before .before .before .before .before .before .before .before .before .before .read-str in
+    let read-str2 = c .before .before .before .before .before .before .before .before .before .before .read-str2 in
+    let read-str3 = c .before .before .before .before .before .before .read-str3 in
+    cc (read-name-file-line .ensures, read-str .ensures, read-str2 .ensures, read-str3 .ensures, c .before .before .read-to-sql-config .ensures)
 
 pub read-ord-or-hash-spec : {M : Type 1} → statement M
 read-ord-or-hash-spec =

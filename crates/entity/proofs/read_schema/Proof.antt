@@ -18,11 +18,19 @@ read-u32-requires : tie.Need-read-u32-requires
 read-u32-requires c κs = tt
 
 same-length : tie.Need-same-length
-same-length c = c .before .before .read-u32 .kept .1 .1 .0 ∙ c .before .before .before .before .before .before .read-str3 .kept .1 .1 .0 ∙ c .before .before .before .before .before .before .before .before .before .before .read-str2 .kept .1 .1 .0 ∙ c .before .before .before .before .before .before .before .before .before .before .before .before .before .before .read-str .kept .1 .1 .0
+same-length c =
+    let read-str = c .before .before .before .before .before .before .before .before .before .before .before .before .before .before .read-str in
+    let read-str2 = c .before .before .before .before .before .before .before .before .before .before .read-str2 in
+    let read-str3 = c .before .before .before .before .before .before .read-str3 in
+    c .before .before .read-u32 .kept .1 .1 .0 ∙ read-str3 .kept .1 .1 .0 ∙ read-str2 .kept .1 .1 .0 ∙ read-str .kept .1 .1 .0
 
 returns : tie.Need-returns
 unfolding Schema
-returns c = then-in _ _ _ _ _ _ (c .before .before .before .before .before .before .before .before .before .before .before .before .before .before .read-str .ensures) (then-in _ _ _ _ _ _ (c .before .before .before .before .before .before .before .before .before .before .read-str2 .ensures) (then-in _ _ _ _ _ _ (c .before .before .before .before .before .before .read-str3 .ensures) (c .before .before .read-u32 .ensures)))
+returns c =
+    let read-str = c .before .before .before .before .before .before .before .before .before .before .before .before .before .before .read-str in
+    let read-str2 = c .before .before .before .before .before .before .before .before .before .before .read-str2 in
+    let read-str3 = c .before .before .before .before .before .before .read-str3 in
+    then-in _ _ _ _ _ _ (read-str .ensures) (then-in _ _ _ _ _ _ (read-str2 .ensures) (then-in _ _ _ _ _ _ (read-str3 .ensures) (c .before .before .read-u32 .ensures)))
 
 pub read-schema-spec : {M : Type 1} → statement M
 read-schema-spec =

@@ -19,7 +19,11 @@ read-to-sql-config-requires : tie.Need-read-to-sql-config-requires
 read-to-sql-config-requires c κs = tt
 
 same-length : tie.Need-same-length
-same-length c = c .before .before .read-to-sql-config .kept .1 .1 .0 ∙ c .before .before .before .before .before .before .read-str2 .kept .1 .1 .0 ∙ c .before .before .before .before .before .before .before .before .before .before .read-str .kept .1 .1 .0 ∙ c .before .before .before .before .before .before .before .before .before .before .before .before .before .before .read-name-file-line .kept .1 .1 .0
+same-length c =
+    let read-name-file-line = c .before .before .before .before .before .before .before .before .before .before .before .before .before .before .read-name-file-line in
+    let read-str = c .before .before .before .before .before .before .before .before .before .before .read-str in
+    let read-str2 = c .before .before .before .before .before .before .read-str2 in
+    c .before .before .read-to-sql-config .kept .1 .1 .0 ∙ read-str2 .kept .1 .1 .0 ∙ read-str .kept .1 .1 .0 ∙ read-name-file-line .kept .1 .1 .0
 
 returns : tie.Need-returns
 unfolding drive Trigger NameFileLine

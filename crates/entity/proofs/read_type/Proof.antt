@@ -22,11 +22,21 @@ read-option-u32-requires : tie.Need-read-option-u32-requires
 read-option-u32-requires c κs = tt
 
 same-length : tie.Need-same-length
-same-length c = c .before .before .read-option-u32 .kept .1 .1 .0 ∙ c .before .before .before .before .before .before .read-to-sql-config .kept .1 .1 .0 ∙ c .before .before .before .before .before .before .before .before .before .before .read-type-functions .kept .1 .1 .0 ∙ c .before .before .before .before .before .before .before .before .before .before .before .before .before .before .read-type-paths .kept .1 .1 .0 ∙ c .before .before .before .before .before .before .before .before .before .before .before .before .before .before .before .before .before .before .read-name-file-line .kept .1 .1 .0
+same-length c =
+    let read-name-file-line = c .before .before .before .before .before .before .before .before .before .before .before .before .before .before .before .before .before .before .read-name-file-line in
+    let read-type-paths = c .before .before .before .before .before .before .before .before .before .before .before .before .before .before .read-type-paths in
+    let read-type-functions = c .before .before .before .before .before .before .before .before .before .before .read-type-functions in
+    let read-to-sql-config = c .before .before .before .before .before .before .read-to-sql-config in
+    c .before .before .read-option-u32 .kept .1 .1 .0 ∙ read-to-sql-config .kept .1 .1 .0 ∙ read-type-functions .kept .1 .1 .0 ∙ read-type-paths .kept .1 .1 .0 ∙ read-name-file-line .kept .1 .1 .0
 
 returns : tie.Need-returns
 unfolding drive PostgresType NameFileLine TypePaths TypeFunctions
-returns c = cc (c .before .before .before .before .before .before .before .before .before .before .before .before .before .before .before .before .before .before .read-name-file-line .ensures, c .before .before .before .before .before .before .before .before .before .before .before .before .before .before .read-type-paths .ensures, c .before .before .before .before .before .before .before .before .before .before .read-type-functions .ensures, c .before .before .before .before .before .before .read-to-sql-config .ensures, c .before .before .read-option-u32 .ensures)
+returns c =
+    let read-name-file-line = c .before .before .before .before .before .before .before .before .before .before .before .before .before .before .before .before .before .before .read-name-file-line in
+    let read-type-paths = c .before .before .before .before .before .before .before .before .before .before .before .before .before .before .read-type-paths in
+    let read-type-functions = c .before .before .before .before .before .before .before .before .before .before .read-type-functions in
+    let read-to-sql-config = c .before .before .before .before .before .before .read-to-sql-config in
+    cc (read-name-file-line .ensures, read-type-paths .ensures, read-type-functions .ensures, read-to-sql-config .ensures, c .before .before .read-option-u32 .ensures)
 
 pub read-type-spec : {M : Type 1} → statement M
 read-type-spec =

@@ -18,11 +18,19 @@ read-option-str-requires-2 : tie.Need-read-option-str-requires-2
 read-option-str-requires-2 c κs = tt
 
 same-length : tie.Need-same-length
-same-length c = c .before .before .read-option-str2 .kept .1 .1 .0 ∙ c .before .before .before .before .before .before .read-option-str .kept .1 .1 .0 ∙ c .before .before .before .before .before .before .before .before .before .before .read-str2 .kept .1 .1 .0 ∙ c .before .before .before .before .before .before .before .before .before .before .before .before .before .before .read-str .kept .1 .1 .0
+same-length c =
+    let read-str = c .before .before .before .before .before .before .before .before .before .before .before .before .before .before .read-str in
+    let read-str2 = c .before .before .before .before .before .before .before .before .before .before .read-str2 in
+    let read-option-str = c .before .before .before .before .before .before .read-option-str in
+    c .before .before .read-option-str2 .kept .1 .1 .0 ∙ read-option-str .kept .1 .1 .0 ∙ read-str2 .kept .1 .1 .0 ∙ read-str .kept .1 .1 .0
 
 returns : tie.Need-returns
 unfolding TypeFunctions
-returns c = then-in _ _ _ _ _ _ (c .before .before .before .before .before .before .before .before .before .before .before .before .before .before .read-str .ensures) (then-in _ _ _ _ _ _ (c .before .before .before .before .before .before .before .before .before .before .read-str2 .ensures) (then-in _ _ _ _ _ _ (c .before .before .before .before .before .before .read-option-str .ensures) (c .before .before .read-option-str2 .ensures)))
+returns c =
+    let read-str = c .before .before .before .before .before .before .before .before .before .before .before .before .before .before .read-str in
+    let read-str2 = c .before .before .before .before .before .before .before .before .before .before .read-str2 in
+    let read-option-str = c .before .before .before .before .before .before .read-option-str in
+    then-in _ _ _ _ _ _ (read-str .ensures) (then-in _ _ _ _ _ _ (read-str2 .ensures) (then-in _ _ _ _ _ _ (read-option-str .ensures) (c .before .before .read-option-str2 .ensures)))
 
 pub read-type-functions-spec : {M : Type 1} → statement M
 read-type-functions-spec =

@@ -1,4 +1,4 @@
--- The rows before `row` are stored; the others are still to come.
+-- The rows before index i are stored; the others are still to come.
 use Prim.Native.Nat.{_-_, _≤_}
 use native.Mathlib.Omega.{arith}
 use native.Mathlib.Nat.{sub-zero}
@@ -14,10 +14,10 @@ use Rattle.entry_writer.proofs.store.Statement.{statement}
 use Rattle.entry_writer.proofs.store.Tie as tie
 
 abbrev Inv-loop : tie.InvT-loop
-Inv-loop rows text dest₀ at₀ row₀ dest at row = (at ≤ length dest) × (length dest ≡ length dest₀) × (stored rows text dest₀ ≡ storedFrom rows text (wholeRows rows - row) row at dest)
+Inv-loop rows text dest₀ at₀ i₀ dest at i = (at ≤ length dest) × (length dest ≡ length dest₀) × (stored rows text dest₀ ≡ storedFrom rows text (wholeRows rows - i) i at dest)
 
 abbrev μ-loop : tie.MeasureT-loop
-μ-loop rows text dest₀ at₀ row₀ dest at row = wholeRows rows - row
+μ-loop rows text dest₀ at₀ i₀ dest at i = wholeRows rows - i
 
 loop-holds : tie.Need-loop-holds Inv-loop μ-loop
 loop-holds c = (omega arith, refl, simp sub-zero)
@@ -35,27 +35,35 @@ returns : tie.Need-returns Inv-loop μ-loop
 returns c =
     let a = c .before .before .before .before .before .before .before .args in
     let x = c .before .before .before .loop in
-    λ ls g k f. sym (x .inv .2 ∙ stored-stop (now (a .rows)) (now (a .text)) (wholeRows (now (a .rows))) (x .row) (x .at) _ (c .before .before .loop-test .taken) _ (c .before .row-len .ensures) (omega (arith, x .inv .0))) ∙ stores (now (a .rows)) (now (a .text)) (now (a .dest)) ls g k f
+    λ ls g k f. sym (x .inv .2 ∙ stored-stop (now (a .rows)) (now (a .text)) (wholeRows (now (a .rows))) (x .i) (x .at) _ (c .before .before .loop-test .taken) _ (c .before .row-len .ensures) (omega (arith, x .inv .0))) ∙ stores (now (a .rows)) (now (a .text)) (now (a .dest)) ls g k f
 
 store-row-requires : tie.Need-store-row-requires Inv-loop μ-loop
 store-row-requires c κs = (c .before .before .before .loop-test .taken, omega (arith, c .before .before .row-len .ensures, c .before .if1 .left, c .before .before .before .before .loop .inv .0))
 
 add-at : tie.Need-add-at Inv-loop μ-loop
-add-at c = omega (arith, c .before .before .before .before .if1 .left, c .before .before .before .before .before .before .before .loop .inv .0)
+add-at c =
+    let loop = c .before .before .before .before .before .before .before .loop in
+    omega (arith, c .before .before .before .before .if1 .left, loop .inv .0)
 
-add-row : tie.Need-add-row Inv-loop μ-loop
-add-row c = omega (arith, c .before .before .before .before .before .before .loop-test .taken)
+add-i : tie.Need-add-i Inv-loop μ-loop
+add-i c =
+    let loop-test = c .before .before .before .before .before .before .loop-test in
+    omega (arith, loop-test .taken)
 
 loop-less : tie.Need-loop-less Inv-loop μ-loop
-loop-less c = omega (arith, c .before .before .before .before .before .before .loop-test .taken)
+loop-less c =
+    let loop-test = c .before .before .before .before .before .before .loop-test in
+    omega (arith, loop-test .taken)
 
 loop-again : tie.Need-loop-again Inv-loop μ-loop
 loop-again c =
+    let loop-test = c .before .before .before .before .before .before .loop-test in
+    let row-len-ensures = c .before .before .before .before .before .row-len .ensures in
     let a = c .before .before .before .before .before .before .before .before .before .before .before .args in
     let x = c .before .before .before .before .before .before .before .loop in (
       search (needs, x .inv .0),
       search (needs, x .inv .1),
-      x .inv .2 ∙ stored-step (now (a .rows)) (now (a .text)) (wholeRows (now (a .rows))) (x .row) (x .at) _ (c .before .before .before .before .before .before .loop-test .taken) _ (c .before .before .before .before .before .row-len .ensures) (omega (arith, x .inv .0)) _ (c .before .before .store-row .ensures),
+      x .inv .2 ∙ stored-step (now (a .rows)) (now (a .text)) (wholeRows (now (a .rows))) (x .i) (x .at) _ (loop-test .taken) _ row-len-ensures (omega (arith, x .inv .0)) _ (c .before .before .store-row .ensures),
     )
 
 same-length-2 : tie.Need-same-length-2 Inv-loop μ-loop
@@ -65,7 +73,7 @@ returns-2 : tie.Need-returns-2 Inv-loop μ-loop
 returns-2 c =
     let a = c .before .before .before .before .before .args in
     let x = c .before .loop in
-    λ ls g k f. sym (x .inv .2 ∙ stored-done (now (a .rows)) (now (a .text)) (wholeRows (now (a .rows))) (x .row) (x .at) _ (c .loop-test .left)) ∙ stores (now (a .rows)) (now (a .text)) (now (a .dest)) ls g k f
+    λ ls g k f. sym (x .inv .2 ∙ stored-done (now (a .rows)) (now (a .text)) (wholeRows (now (a .rows))) (x .i) (x .at) _ (c .loop-test .left)) ∙ stores (now (a .rows)) (now (a .text)) (now (a .dest)) ls g k f
 
 pub store-spec : {M : Type 1} → statement M
 store-spec =
@@ -80,7 +88,7 @@ store-spec =
     returns
     store-row-requires
     add-at
-    add-row
+    add-i
     loop-less
     loop-again
     same-length-2

@@ -35,7 +35,8 @@ too-long-requires c κs = search needs
 
 returns : tie.Need-returns Inv-loop μ-loop
 returns c =
-    let items = now (c .before .before .before .before .before .before .args .items) in
+    let args = c .before .before .before .before .before .before .args in
+    let items = now (args .items) in
     c .too-long .ensures ∙ sym (above-limit (listLength items) (omega (arith, sum-next items (c .before .before .before .before .loop .i) (omega arith))))
 
 add-total : tie.Need-add-total Inv-loop μ-loop
@@ -48,7 +49,9 @@ loop-less : tie.Need-loop-less Inv-loop μ-loop
 loop-less c = search needs
 
 loop-again : tie.Need-loop-again Inv-loop μ-loop
-loop-again c = (search needs, search needs, omega (arith, sum-next (now (c .before .before .before .before .before .args .items)) (c .before .before .before .loop .i) (omega arith)))
+loop-again c =
+    let args = c .before .before .before .before .before .args in
+    (search needs, search needs, omega (arith, sum-next (now (args .items)) (c .before .before .before .loop .i) (omega arith)))
 
 returns-2 : tie.Need-returns-2 Inv-loop μ-loop
 returns-2 c =

@@ -2,7 +2,7 @@
 use native.Mathlib.Omega.{arith}
 use mathlib.Core.Path.{_≡_, ap}
 use borrow.Author.Needs.{needs}
-use Rattle.leaf.specs.Finish.{resultOf}
+use Rattle.table.specs.Answers.{resultOf}
 use Rattle.listing.specs.Listing.{lentTable}
 use Rattle.listing.specs.Private.{Place}
 use Rattle.listing.proofs.Lines.{word-put, long-listing, read-listing, rows-there, listed}
@@ -25,9 +25,12 @@ same-length c = search needs
 
 returns : tie.Need-returns
 returns c =
-    let a = c .before .before .before .before .before .before .before .before .before .before .before .before .args in let s = a .input .now in
-    let e = listed s _ (a .out .now) _ _ (long-listing s (omega (arith, c .before .before .before .before .before .before .before .before .before .if1 .taken))) (word-put _ _ _ _ (c .before .before .before .before .before .before .put .ensures) (c .before .before .put-byte .ensures)) in
-    (e .0, (e .1, omega (arith, place-behind _ _ _ (c .before .before .before .before .before .before .put .ensures), ap (λ (p : Place). p .at) (c .before .before .put-byte .ensures))))
+    let if1 = c .before .before .before .before .before .before .before .before .before .if1 in
+    let put-ensures = c .before .before .before .before .before .before .put .ensures in
+    let a = c .before .before .before .before .before .before .before .before .before .before .before .before .args in
+    let s = a .input .now in
+    let e = listed s _ (a .out .now) _ _ (long-listing s (omega (arith, if1 .taken))) (word-put _ _ _ _ put-ensures (c .before .before .put-byte .ensures)) in
+    (e .0, (e .1, omega (arith, place-behind _ _ _ put-ensures, ap (λ (p : Place). p .at) (c .before .before .put-byte .ensures))))
 
 lent-table-requires : tie.Need-lent-table-requires
 lent-table-requires c κs = search needs
@@ -52,10 +55,13 @@ same-length-2 c = search needs
 
 returns-2 : tie.Need-returns-2
 returns-2 c =
-    let a = c .before .before .before .before .before .before .before .before .before .before .before .before .args in let s = a .input .now in
+    let lent-table-ensures = c .before .before .before .before .before .before .before .before .lent-table .ensures in
+    let if1 = c .before .before .before .before .before .before .before .before .before .if1 in
+    let a = c .before .before .before .before .before .before .before .before .before .before .before .before .args in
+    let s = a .input .now in
     let d = c .before .before .before .before .before .before .decode-entities in
-    let f : resultOf (d .result) (d .last .1 .0) ≡ reading s lentTable = cc (c .before .before .before .before .before .before .before .before .lent-table .ensures .0) in
-    let e = listed s _ (a .out .now) _ _ (read-listing s (d .result) _ (omega (arith, c .before .before .before .before .before .before .before .before .before .if1 .left)) f) (c .before .before .put-answer .ensures .0) in
+    let f : resultOf (d .result) (d .last .1 .0) ≡ reading s lentTable = cc (lent-table-ensures .0) in
+    let e = listed s _ (a .out .now) _ _ (read-listing s (d .result) _ (omega (arith, if1 .left)) f) (c .before .before .put-answer .ensures .0) in
     (e .0, (e .1, c .before .before .put-answer .ensures .1))
 
 pub listing-spec : {M : Type 1} → statement M

@@ -3,8 +3,8 @@ use native.Mathlib.Omega.{arith}
 use mathlib.Core.Path.{sym, ap, _∙_}
 use borrow.Author.Needs.{needs}
 use Rattle.layout.specs.Answers.{wholeRows}
-use Rattle.leaf.specs.Finish.{answerOf}
-use Rattle.leaf.specs.declared.Answer.{Answer}
+use Rattle.table.specs.Answers.{answerOf}
+use Rattle.table.specs.declared.Answer.{Answer}
 use Rattle.listing.specs.Listing.{lines}
 use Rattle.listing.specs.Private.{place, putAll}
 use Rattle.listing.proofs.Lines.{accept-put, refuse-put, counted}
@@ -22,8 +22,9 @@ put-counts-requires c κs = search needs
 
 put-rows-requires : tie.Need-put-rows-requires
 put-rows-requires c κs =
+    let answer-given = c .before .before .before .before .before .before .before .answer .given in
     let a = c .before .before .before .before .before .before .before .before .before .before .before in
-    let h = counted (a .args .answer) _ _ (wholeRows (a .args .table .now)) (c .before .before .before .before .before .before .before .answer .given .1) (a .pre .1) in
+    let h = counted (a .args .answer) _ _ (wholeRows (a .args .table .now)) (answer-given .1) (a .pre .1) in
     (omega arith, omega (arith, a .pre .0, c .before .before .before .put-counts .ensures .1))
 
 enum-known-answer-2 : tie.Need-enum-known-answer-2
@@ -43,12 +44,13 @@ same-length c = search needs
 
 returns : tie.Need-returns
 returns c =
+    let put-counts-ensures = c .before .before .before .before .before .before .put-counts .ensures in
     let a = c .before .before .before .before .before .before .before .before .before .before .before .before .before .before in
     let e = c .before .before .before .before .before .before .before .before .before .before .answer .given .1 in
     let h = counted (a .args .answer) _ _ (wholeRows (a .args .table .now)) e (a .pre .1) in (
-      accept-put _ _ (a .args .table .now) _ _ _ (c .before .before .before .before .before .before .put-counts .ensures .0) (c .before .before .put-rows .ensures .0)
+      accept-put _ _ (a .args .table .now) _ _ _ (put-counts-ensures .0) (c .before .before .put-rows .ensures .0)
           ∙ ap (λ (x : Answer). putAll (lines (answerOf x) (a .args .table .now)) (place (a .args .out .now) 0)) (sym e),
-      omega (arith, a .pre .0, c .before .before .before .before .before .before .put-counts .ensures .1, c .before .before .put-rows .ensures .1),
+      omega (arith, a .pre .0, put-counts-ensures .1, c .before .before .put-rows .ensures .1),
     )
 
 same-length-2 : tie.Need-same-length-2
@@ -56,9 +58,10 @@ same-length-2 c = search needs
 
 returns-2 : tie.Need-returns-2
 returns-2 c =
+    let answer2-given = c .before .before .before .before .before .before .before .answer2 .given in
     let a = c .before .before .before .before .before .before .before .before .before .before .before .args in (
       refuse-put _ _ _ (a .table .now) _ _ (c .before .before .before .wide .ensures .0) (c .before .before .put-counts2 .ensures .0)
-          ∙ ap (λ (x : Answer). putAll (lines (answerOf x) (a .table .now)) (place (a .out .now) 0)) (sym (c .before .before .before .before .before .before .before .answer2 .given .1)),
+          ∙ ap (λ (x : Answer). putAll (lines (answerOf x) (a .table .now)) (place (a .out .now) 0)) (sym (answer2-given .1)),
       omega (arith, c .before .before .put-counts2 .ensures .1),
     )
 

@@ -20,13 +20,19 @@ slice-aggregate-put : tie.Need-slice-aggregate-put
 slice-aggregate-put c = let e = c .before .before .before .decimal .ensures in e .1 ∙ sym (ap length (digits-taken _ _ _ (e .0) (e .1)))
 
 put-requires : tie.Need-put-requires
-put-requires c κs = let e = c .before .before .before .decimal .ensures in omega (arith, ap length (digits-taken _ _ _ (e .0) (e .1)), most-64 (c .before .before .before .before .before .args .n) (omega arith))
+put-requires c κs =
+    let args = c .before .before .before .before .before .args in
+    let e = c .before .before .before .decimal .ensures in
+    omega (arith, ap length (digits-taken _ _ _ (e .0) (e .1)), most-64 (args .n) (omega arith))
 
 same-length : tie.Need-same-length
 same-length c = search needs
 
 returns : tie.Need-returns
-returns c = c .before .before .put .ensures ∙ ap (λ (l : List ℕ). putAll l (place (c .before .before .before .before .before .before .before .before .args .out .now) (c .before .before .before .before .before .before .before .before .args .at))) (digits-taken _ _ _ (c .before .before .before .before .before .before .decimal .ensures .0) (c .before .before .before .before .before .before .decimal .ensures .1))
+returns c =
+    let args = c .before .before .before .before .before .before .before .before .args in
+    let decimal = c .before .before .before .before .before .before .decimal in
+    c .before .before .put .ensures ∙ ap (λ (l : List ℕ). putAll l (place (args .out .now) (args .at))) (digits-taken _ _ _ (decimal .ensures .0) (decimal .ensures .1))
 
 pub put-decimal-spec : {M : Type 1} → statement M
 put-decimal-spec =

@@ -66,8 +66,10 @@ put-byte-requires c κs = search needs
 
 returns : tie.Need-returns Inv-loop μ-loop
 returns c =
+    let wide-ensures = c .before .before .before .before .before .before .before .before .before .wide .ensures in
+    let put-decimal-ensures = c .before .before .before .before .before .before .before .before .put-decimal .ensures in
     let x = c .before .before .before .before .before .loop in (
-      line-put _ (x .k) _ _ _ _ _ (search needs) (search needs) (c .before .before .before .before .before .before .before .before .before .wide .ensures .0) (c .before .before .before .before .before .before .before .before .put-decimal .ensures) (x .inv .2) (c .before .before .put-byte .ensures),
+      line-put _ (x .k) _ _ _ _ _ (search needs) (search needs) (wide-ensures .0) put-decimal-ensures (x .inv .2) (c .before .before .put-byte .ensures),
       omega (arith, ap (λ (p : Place). p .at) (c .before .before .put-byte .ensures)),
     )
 

@@ -52,11 +52,14 @@ loop-less c = omega arith
 
 loop-again : tie.Need-loop-again Inv-loop μ-loop
 loop-again c =
-    let x = c .before .before .before .before .before .before .loop in let table = c .before .before .before .before .before .before .before .before .before .args .table .now in let width = x .start + rowWidth - x .start in (
+    let args = c .before .before .before .before .before .before .before .before .before .args in
+    let x = c .before .before .before .before .before .before .loop in
+    let table = args .table .now in
+    let width = x .start + rowWidth - x .start in (
       search needs,
       search needs,
       omega (arith, c .before .before .put-row .ensures .1, length-take width (drop (x .start) table)),
-      row-put table (c .before .before .before .before .before .before .before .before .before .args .rows) (x .k) (x .start) width _ _ _ (search needs) (omega arith) (c .before .before .put-row .ensures .0) (x .inv .3),
+      row-put table (args .rows) (x .k) (x .start) width _ _ _ (search needs) (omega arith) (c .before .before .put-row .ensures .0) (x .inv .3),
     )
 
 same-length : tie.Need-same-length Inv-loop μ-loop

@@ -18,7 +18,10 @@ same-length c = search needs
 
 returns : tie.Need-returns
 unfolding putAll
-returns c = c .before .before .put-decimal .ensures ∙ ap (putAll (decimal (c .before .before .before .before .before .before .before .before .before .args .n))) (c .before .before .before .before .before .before .put-byte .ensures)
+returns c =
+    let args = c .before .before .before .before .before .before .before .before .before .args in
+    let put-byte = c .before .before .before .before .before .before .put-byte in
+    c .before .before .put-decimal .ensures ∙ ap (putAll (decimal (args .n))) (put-byte .ensures)
 
 pub put-word-spec : {M : Type 1} → statement M
 put-word-spec = tie.close (tie.spec put-byte-requires put-decimal-requires same-length returns)

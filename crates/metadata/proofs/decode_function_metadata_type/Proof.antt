@@ -2,7 +2,7 @@
 use native.Mathlib.Omega.{arith}
 use borrow.Author.Needs.{needs}
 use denote.Ref.{now}
-use Rattle.leaf.proofs.Finish.{decoded}
+use Rattle.leaf.proofs.Answered.{decoded}
 use Rattle.layout.specs.Entities.{FunctionMetadataType}
 use Rattle.metadata.proofs.decode_function_metadata_type.Statement.{statement}
 use Rattle.metadata.proofs.decode_function_metadata_type.Tie as tie
@@ -13,14 +13,19 @@ new-requires c κs = search needs
 read-function-metadata-type-requires : tie.Need-read-function-metadata-type-requires
 read-function-metadata-type-requires c κs = search needs
 
-finish-requires : tie.Need-finish-requires
-finish-requires c κs = search needs
+answer-alone-requires : tie.Need-answer-alone-requires
+answer-alone-requires c κs = search needs
 
 same-length : tie.Need-same-length
 same-length c = search needs
 
 returns : tie.Need-returns
-returns c = decoded FunctionMetadataType 0 (now (c .before .before .before .before .before .before .before .before .before .before .before .args .s)) (now (c .before .before .before .before .before .before .before .before .before .before .before .args .t)) _ _ _ (λ i h. omega (arith, c .before .before .before .before .before .before .before .before .before .before .shared-slice-known .given i)) (c .before .before .before .before .before .before .before .before .new .ensures) (c .before .before .before .before .before .before .read-function-metadata-type .ensures) (c .before .before .finish .ensures)
+returns c =
+    let args = c .before .before .before .before .before .before .before .before .before .before .before .args in
+    let shared-slice-known-given = c .before .before .before .before .before .before .before .before .before .before .shared-slice-known .given in
+    let new-ensures = c .before .before .before .before .before .before .before .before .new .ensures in
+    let read-function-metadata-type-ensures = c .before .before .before .before .before .before .read-function-metadata-type .ensures in
+    decoded FunctionMetadataType 0 (now (args .s)) (now (args .t)) _ _ _ (λ i h. omega (arith, shared-slice-known-given i)) new-ensures read-function-metadata-type-ensures (c .before .before .answer-alone .ensures)
 
 pub decode-function-metadata-type-spec : {M : Type 1} → statement M
 decode-function-metadata-type-spec =
@@ -28,6 +33,6 @@ decode-function-metadata-type-spec =
     (tie.spec
     new-requires
     read-function-metadata-type-requires
-    finish-requires
+    answer-alone-requires
     same-length
     returns)

@@ -20,25 +20,37 @@ refused-requires : tie.Need-refused-requires
 refused-requires c κs = tt
 
 same-length : tie.Need-same-length
-same-length c = c .before .before .read-str .kept .1 .1 .0 ∙ c .before .before .before .before .before .before .before .read-u8 .kept .1 .1 .0
+same-length c =
+    let read-u8 = c .before .before .before .before .before .before .before .read-u8 in
+    c .before .before .read-str .kept .1 .1 .0 ∙ read-u8 .kept .1 .1 .0
 
 returns : tie.Need-returns
 unfolding ArgumentError
-returns c = tags-in argumentErrors 7 _ _ _ _ (c .before .before .before .before .before .before .before .read-u8 .ensures) (c .before .before .before .before .match .keys1) refl (c .before .before .read-str .ensures)
+returns c =
+    let read-u8 = c .before .before .before .before .before .before .before .read-u8 in
+    tags-in argumentErrors 7 _ _ _ _ (read-u8 .ensures) (c .before .before .before .before .match .keys1) refl (c .before .before .read-str .ensures)
 
 same-length-2 : tie.Need-same-length-2
-same-length-2 c = c .before .before .before .before .before .read-u8 .kept .1 .1 .0
+same-length-2 c =
+    let read-u8 = c .before .before .before .before .before .read-u8 in
+    read-u8 .kept .1 .1 .0
 
 returns-2 : tie.Need-returns-2
 unfolding ArgumentError
-returns-2 c = tags-bare 1 6 (7 ⇒ text ∷ []) _ _ _ (c .before .before .before .before .before .read-u8 .ensures) (omega arith) (omega arith)
+returns-2 c =
+    let read-u8-ensures = c .before .before .before .before .before .read-u8 .ensures in
+    tags-bare 1 6 (7 ⇒ text ∷ []) _ _ _ read-u8-ensures (omega arith) (omega arith)
 
 same-length-3 : tie.Need-same-length-3
-same-length-3 c = c .before .before .before .before .before .read-u8 .kept .1 .1 .0
+same-length-3 c =
+    let read-u8 = c .before .before .before .before .before .read-u8 in
+    read-u8 .kept .1 .1 .0
 
 returns-3 : tie.Need-returns-3
 unfolding ArgumentError
-returns-3 c = tags-wrong argumentErrors _ _ _ _ (c .before .before .before .before .before .read-u8 .ensures) (⊎-elim (λ w. omega arith) (λ w. omega arith) (c .before .if1 .came)) (rw (c .refused .ensures))
+returns-3 c =
+    let read-u8-ensures = c .before .before .before .before .before .read-u8 .ensures in
+    tags-wrong argumentErrors _ _ _ _ read-u8-ensures (⊎-elim (λ w. omega arith) (λ w. omega arith) (c .before .if1 .came)) (rw (c .refused .ensures))
 
 pub read-argument-error-spec : {M : Type 1} → statement M
 read-argument-error-spec =

@@ -3,15 +3,15 @@ use native.Mathlib.Omega.{arith}
 use mathlib.Core.Path.{_∙_, refl}
 use Rattle.layout.specs.Entities.{ArgumentSql, argumentResults}
 use Rattle.layout.proofs.Forms.{tags-in, tags-wrong}
-use Rattle.leaf.proofs.Handing.{anew-in}
+use Rattle.leaf.proofs.Handing.{copy-in}
 use Rattle.metadata.proofs.read_argument_sql.Statement.{statement}
 use Rattle.metadata.proofs.read_argument_sql.Tie as tie
 
 read-u8-requires : tie.Need-read-u8-requires
 read-u8-requires c κs = tt
 
-anew-requires : tie.Need-anew-requires
-anew-requires c κs = tt
+copy-requires : tie.Need-copy-requires
+copy-requires c κs = tt
 
 read-sql-mapping-requires : tie.Need-read-sql-mapping-requires
 read-sql-mapping-requires c κs = tt
@@ -23,18 +23,27 @@ refused-requires : tie.Need-refused-requires
 refused-requires c κs = tt
 
 same-length : tie.Need-same-length
-same-length c = c .before .before .read-sql-mapping .kept .1 .1 .0 ∙ c .before .before .before .before .before .before .before .before .read-u8 .kept .1 .1 .0
+same-length c =
+    let read-u8 = c .before .before .before .before .before .before .before .before .read-u8 in
+    c .before .before .read-sql-mapping .kept .1 .1 .0 ∙ read-u8 .kept .1 .1 .0
 
 returns : tie.Need-returns
 unfolding ArgumentSql
-returns c = tags-in argumentResults 1 _ _ _ _ (c .before .before .before .before .before .before .before .before .read-u8 .ensures) (c .before .before .before .before .before .match .keys1) refl (anew-in _ _ _ _ _ _ (c .before .before .before .before .anew .ensures) (c .before .before .read-sql-mapping .ensures))
+returns c =
+    let read-u8 = c .before .before .before .before .before .before .before .before .read-u8 in
+    let match = c .before .before .before .before .before .match in
+    tags-in argumentResults 1 _ _ _ _ (read-u8 .ensures) (match .keys1) refl (copy-in _ _ _ _ _ _ (c .before .before .before .before .copy .ensures) (c .before .before .read-sql-mapping .ensures))
 
 same-length-2 : tie.Need-same-length-2
-same-length-2 c = c .before .before .read-argument-error .kept .1 .1 .0 ∙ c .before .before .before .before .before .before .before .read-u8 .kept .1 .1 .0
+same-length-2 c =
+    let read-u8 = c .before .before .before .before .before .before .before .read-u8 in
+    c .before .before .read-argument-error .kept .1 .1 .0 ∙ read-u8 .kept .1 .1 .0
 
 returns-2 : tie.Need-returns-2
 unfolding ArgumentSql
-returns-2 c = tags-in argumentResults 2 _ _ _ _ (c .before .before .before .before .before .before .before .read-u8 .ensures) (c .before .before .before .before .match .keys2) refl (c .before .before .read-argument-error .ensures)
+returns-2 c =
+    let read-u8 = c .before .before .before .before .before .before .before .read-u8 in
+    tags-in argumentResults 2 _ _ _ _ (read-u8 .ensures) (c .before .before .before .before .match .keys2) refl (c .before .before .read-argument-error .ensures)
 
 same-length-3 : tie.Need-same-length-3
 same-length-3 c = c .before .before .before .before .read-u8 .kept .1 .1 .0
@@ -48,7 +57,7 @@ read-argument-sql-spec =
     tie.close
     (tie.spec
     read-u8-requires
-    anew-requires
+    copy-requires
     read-sql-mapping-requires
     read-argument-error-requires
     refused-requires

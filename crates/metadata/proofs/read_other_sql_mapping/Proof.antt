@@ -3,15 +3,15 @@ use native.Mathlib.Omega.{arith}
 use mathlib.Core.Path.{refl}
 use Rattle.layout.specs.Entities.{SqlMapping, sqlMappings}
 use Rattle.layout.proofs.Forms.{drive-nothing, tags-in, tags-wrong}
-use Rattle.leaf.proofs.Handing.{anew-in}
+use Rattle.leaf.proofs.Handing.{copy-in}
 use Rattle.metadata.proofs.read_other_sql_mapping.Statement.{statement}
 use Rattle.metadata.proofs.read_other_sql_mapping.Tie as tie
 
 read-sql-array-mapping-requires : tie.Need-read-sql-array-mapping-requires
 read-sql-array-mapping-requires c κs = tt
 
-anew-requires : tie.Need-anew-requires
-anew-requires c κs = tt
+copy-requires : tie.Need-copy-requires
+copy-requires c κs = tt
 
 read-numeric-requires : tie.Need-read-numeric-requires
 read-numeric-requires c κs = tt
@@ -31,7 +31,9 @@ same-length-2 c = c .before .before .read-numeric .kept .1 .1 .0
 
 returns-2 : tie.Need-returns-2
 unfolding SqlMapping
-returns-2 c = λ b h e. tags-in sqlMappings 3 _ _ _ _ e (c .before .before .before .before .before .match .keys2) refl (anew-in _ _ _ _ _ _ (c .before .before .before .before .anew .ensures) (c .before .before .read-numeric .ensures))
+returns-2 c =
+    let match = c .before .before .before .before .before .match in
+    λ b h e. tags-in sqlMappings 3 _ _ _ _ e (match .keys2) refl (copy-in _ _ _ _ _ _ (c .before .before .before .before .copy .ensures) (c .before .before .read-numeric .ensures))
 
 returns-3 : tie.Need-returns-3
 unfolding SqlMapping
@@ -50,7 +52,7 @@ read-other-sql-mapping-spec =
     tie.close
     (tie.spec
     read-sql-array-mapping-requires
-    anew-requires
+    copy-requires
     read-numeric-requires
     refused-requires
     same-length

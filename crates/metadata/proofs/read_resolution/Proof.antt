@@ -12,11 +12,15 @@ read-type-origin-requires : tie.Need-read-type-origin-requires
 read-type-origin-requires c κs = tt
 
 same-length : tie.Need-same-length
-same-length c = c .before .before .read-type-origin .kept .1 .1 .0 ∙ c .before .before .before .before .before .before .read-str .kept .1 .1 .0
+same-length c =
+    let read-str = c .before .before .before .before .before .before .read-str in
+    c .before .before .read-type-origin .kept .1 .1 .0 ∙ read-str .kept .1 .1 .0
 
 returns : tie.Need-returns
 unfolding Resolution
-returns c = then-in _ _ _ _ _ _ (c .before .before .before .before .before .before .read-str .ensures) (c .before .before .read-type-origin .ensures)
+returns c =
+    let read-str = c .before .before .before .before .before .before .read-str in
+    then-in _ _ _ _ _ _ (read-str .ensures) (c .before .before .read-type-origin .ensures)
 
 pub read-resolution-spec : {M : Type 1} → statement M
 read-resolution-spec =

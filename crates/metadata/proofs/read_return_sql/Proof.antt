@@ -19,18 +19,26 @@ refused-requires : tie.Need-refused-requires
 refused-requires c κs = tt
 
 same-length : tie.Need-same-length
-same-length c = c .before .before .read-returns .kept .1 .1 .0 ∙ c .before .before .before .before .before .before .before .read-u8 .kept .1 .1 .0
+same-length c =
+    let read-u8 = c .before .before .before .before .before .before .before .read-u8 in
+    c .before .before .read-returns .kept .1 .1 .0 ∙ read-u8 .kept .1 .1 .0
 
 returns : tie.Need-returns
 unfolding ReturnSql
-returns c = tags-in returnResults 1 _ _ _ _ (c .before .before .before .before .before .before .before .read-u8 .ensures) (c .before .before .before .before .match .keys1) refl (c .before .before .read-returns .ensures)
+returns c =
+    let read-u8 = c .before .before .before .before .before .before .before .read-u8 in
+    tags-in returnResults 1 _ _ _ _ (read-u8 .ensures) (c .before .before .before .before .match .keys1) refl (c .before .before .read-returns .ensures)
 
 same-length-2 : tie.Need-same-length-2
-same-length-2 c = c .before .before .read-returns-error .kept .1 .1 .0 ∙ c .before .before .before .before .before .before .before .read-u8 .kept .1 .1 .0
+same-length-2 c =
+    let read-u8 = c .before .before .before .before .before .before .before .read-u8 in
+    c .before .before .read-returns-error .kept .1 .1 .0 ∙ read-u8 .kept .1 .1 .0
 
 returns-2 : tie.Need-returns-2
 unfolding ReturnSql
-returns-2 c = tags-in returnResults 2 _ _ _ _ (c .before .before .before .before .before .before .before .read-u8 .ensures) (c .before .before .before .before .match .keys2) refl (c .before .before .read-returns-error .ensures)
+returns-2 c =
+    let read-u8 = c .before .before .before .before .before .before .before .read-u8 in
+    tags-in returnResults 2 _ _ _ _ (read-u8 .ensures) (c .before .before .before .before .match .keys2) refl (c .before .before .read-returns-error .ensures)
 
 same-length-3 : tie.Need-same-length-3
 same-length-3 c = c .before .before .before .before .read-u8 .kept .1 .1 .0

@@ -12,20 +12,28 @@ read-str-requires : tie.Need-read-str-requires
 read-str-requires c κs = tt
 
 same-length : tie.Need-same-length
-same-length c = c .before .before .read-str .kept .1 .1 .0 ∙ c .before .before .before .before .before .before .before .before .read-u8 .kept .1 .1 .0
+same-length c =
+    let read-u8 = c .before .before .before .before .before .before .before .before .read-u8 in
+    c .before .before .read-str .kept .1 .1 .0 ∙ read-u8 .kept .1 .1 .0
 
 returns : tie.Need-returns
 unfolding SqlMapping
-returns c = tags-in sqlMappings 1 _ _ _ _ (c .before .before .before .before .before .before .before .before .read-u8 .ensures) (c .before .before .before .before .if1 .taken) refl (c .before .before .read-str .ensures)
+returns c =
+    let read-u8 = c .before .before .before .before .before .before .before .before .read-u8 in
+    tags-in sqlMappings 1 _ _ _ _ (read-u8 .ensures) (c .before .before .before .before .if1 .taken) refl (c .before .before .read-str .ensures)
 
 read-other-sql-mapping-requires : tie.Need-read-other-sql-mapping-requires
 read-other-sql-mapping-requires c κs = c .before .if1 .left
 
 same-length-2 : tie.Need-same-length-2
-same-length-2 c = c .before .before .read-other-sql-mapping .kept .1 .1 .0 ∙ c .before .before .before .before .before .before .before .before .read-u8 .kept .1 .1 .0
+same-length-2 c =
+    let read-u8 = c .before .before .before .before .before .before .before .before .read-u8 in
+    c .before .before .read-other-sql-mapping .kept .1 .1 .0 ∙ read-u8 .kept .1 .1 .0
 
 returns-2 : tie.Need-returns-2
-returns-2 c = c .before .before .read-other-sql-mapping .ensures _ refl (c .before .before .before .before .before .before .before .before .read-u8 .ensures)
+returns-2 c =
+    let read-u8 = c .before .before .before .before .before .before .before .before .read-u8 in
+    c .before .before .read-other-sql-mapping .ensures _ refl (read-u8 .ensures)
 
 pub read-sql-mapping-spec : {M : Type 1} → statement M
 read-sql-mapping-spec =

@@ -6,7 +6,7 @@ use mathlib.Core.Path.{_≡_, refl}
 use lib.ListN.{length}
 use borrow.Author.Needs.{needs}
 use Rattle.layout.proofs.Forms.{list-in, loop-on, loop-end}
-use Rattle.leaf.proofs.Handing.{anew-in}
+use Rattle.leaf.proofs.Handing.{copy-in}
 use Rattle.leaf.proofs.Still.{loop-refused}
 use Rattle.leaf.specs.Run.{run}
 use Rattle.leaf.specs.State.{readState}
@@ -32,22 +32,29 @@ same-length c = search (needs, c .before .before .before .loop .inv .0)
 
 returns : tie.Need-returns Inv-loop μ-loop
 unfolding SqlMappingList
-returns c = list-in _ _ _ _ _ (c .before .before .before .before .before .before .read-count .ensures) (loop-refused _ _ _ _ (c .before .before .before .loop .inv .1) (c .if1 .taken))
+returns c =
+    let read-count = c .before .before .before .before .before .before .read-count in
+    list-in _ _ _ _ _ (read-count .ensures) (loop-refused _ _ _ _ (c .before .before .before .loop .inv .1) (c .if1 .taken))
 
-anew-requires : tie.Need-anew-requires Inv-loop μ-loop
-anew-requires c κs = tt
+copy-requires : tie.Need-copy-requires Inv-loop μ-loop
+copy-requires c κs = tt
 
 read-sql-mapping-requires : tie.Need-read-sql-mapping-requires Inv-loop μ-loop
 read-sql-mapping-requires c κs = tt
 
 add-i : tie.Need-add-i Inv-loop μ-loop
-add-i c = omega (arith, c .before .before .before .before .before .before .before .before .before .before .before .read-count .ok)
+add-i c =
+    let read-count-ok = c .before .before .before .before .before .before .before .before .before .before .before .read-count .ok in
+    omega arith
 
 loop-less : tie.Need-loop-less Inv-loop μ-loop
 loop-less c = omega arith
 
 loop-again : tie.Need-loop-again Inv-loop μ-loop
-loop-again c = (search (needs, c .before .before .before .before .before .before .before .before .loop .inv .0), loop-on _ _ SqlMapping _ _ _ _ (c .before .before .before .before .before .before .before .before .loop .inv .1) (c .before .before .before .before .before .before .before .loop-test .taken) (anew-in _ _ _ _ _ _ (c .before .before .before .before .anew .ensures) (c .before .before .read-sql-mapping .ensures)))
+loop-again c =
+    let loop = c .before .before .before .before .before .before .before .before .loop in
+    let loop-test = c .before .before .before .before .before .before .before .loop-test in
+    (search (needs, loop .inv .0), loop-on _ _ SqlMapping _ _ _ _ (loop .inv .1) (loop-test .taken) (copy-in _ _ _ _ _ _ (c .before .before .before .before .copy .ensures) (c .before .before .read-sql-mapping .ensures)))
 
 same-length-2 : tie.Need-same-length-2 Inv-loop μ-loop
 same-length-2 c = search needs
@@ -66,7 +73,7 @@ read-sql-mapping-list-spec =
     loop-holds
     same-length
     returns
-    anew-requires
+    copy-requires
     read-sql-mapping-requires
     add-i
     loop-less

@@ -1,12 +1,12 @@
 -- What stands where, told as a number and a place.
-use borrow.Author.Needs.{needs}
-use Rattle.parts.specs.SqlText.{sqlText}
 use Rattle.parts.proofs.SqlText.{told}
+use Rattle.parts.specs.SqlText.{sqlText}
+use borrow.Author.Needs.{needs}
 use Rattle.parts.proofs.fill_sql_text.Statement.{statement}
 use Rattle.parts.proofs.fill_sql_text.Tie as tie
 
 place-sql-text-requires : tie.Need-place-sql-text-requires
-place-sql-text-requires c κs = tt
+place-sql-text-requires c κs = search needs
 
 enum-known-found : tie.Need-enum-known-found
 enum-known-found c = search needs
@@ -21,7 +21,10 @@ same-length : tie.Need-same-length
 same-length c = search needs
 
 returns : tie.Need-returns
-returns c = let e = c .before .before .before .before .before .place-sql-text .ensures in (e .1, told (sqlText _ _ _) _ _ (c .before .found .given .1) (e .0))
+returns c =
+    let place-sql-text = c .before .before .before .before .before .place-sql-text in
+    let e = place-sql-text .ensures in
+    (e .1, told (sqlText _ _ _) _ _ (c .before .found .given .1) (e .0))
 
 same-length-2 : tie.Need-same-length-2
 same-length-2 c = search needs

@@ -60,12 +60,15 @@ put-requires-3 c κs = search needs
 
 returns-2 : tie.Need-returns-2
 returns-2 c =
-    let a = held-first (ascii "NUMERIC") (omega arith) (c .before .before .before .before .before .before .before .before .before .before .before .before .before .before .before .before .before .put .ensures) in
-    let b = held (ascii "(") a (omega arith) (c .before .before .before .before .before .before .before .before .before .before .put2 .ensures) in
+    let put-ensures = c .before .before .before .before .before .before .before .before .before .before .before .before .before .before .before .before .before .put .ensures in
+    let precision-given = c .before .before .before .before .before .before .before .before .before .before .before .before .before .before .precision .given in
+    let put2-ensures = c .before .before .before .before .before .before .before .before .before .before .put2 .ensures in
+    let a = held-first (ascii "NUMERIC") (omega arith) put-ensures in
+    let b = held (ascii "(") a (omega arith) put2-ensures in
     let p = c .before .before .before .before .before .before .before .put-decimal .ensures in
     let d = held (decimal _) b (omega arith) (p .0, p .1) in
     let e = held (ascii ")") d (omega arith) (c .before .put3 .ensures) in
-    (record-held e ∙ rw (c .before .before .before .before .enum-told2 .given .1, c .before .before .before .before .before .before .before .before .before .before .before .before .before .before .precision .given .1), omega arith)
+    (record-held e ∙ rw (c .before .before .before .before .enum-told2 .given .1, precision-given .1), omega arith)
 
 slice-aggregate-put-7 : tie.Need-slice-aggregate-put-7
 slice-aggregate-put-7 c = search needs
@@ -93,15 +96,20 @@ put-requires-5 c κs = search needs
 
 returns-3 : tie.Need-returns-3
 returns-3 c =
-    let a = held-first (ascii "NUMERIC") (omega arith) (c .before .before .before .before .before .before .before .before .before .before .before .before .before .before .before .before .before .before .before .before .before .before .before .before .before .put .ensures) in
-    let b = held (ascii "(") a (omega arith) (c .before .before .before .before .before .before .before .before .before .before .before .before .before .before .before .before .before .before .put2 .ensures) in
+    let put-ensures = c .before .before .before .before .before .before .before .before .before .before .before .before .before .before .before .before .before .before .before .before .before .before .before .before .before .put .ensures in
+    let precision-given = c .before .before .before .before .before .before .before .before .before .before .before .before .before .before .before .before .before .before .before .before .before .before .precision .given in
+    let put2-ensures = c .before .before .before .before .before .before .before .before .before .before .before .before .before .before .before .before .before .before .put2 .ensures in
+    let scale-given = c .before .before .before .before .before .before .before .before .before .before .before .before .scale .given in
+    let put4-ensures = c .before .before .before .before .before .before .before .before .put4 .ensures in
+    let a = held-first (ascii "NUMERIC") (omega arith) put-ensures in
+    let b = held (ascii "(") a (omega arith) put2-ensures in
     let p = c .before .before .before .before .before .before .before .before .before .before .before .before .before .before .before .put-decimal .ensures in
     let d = held (decimal _) b (omega arith) (p .0, p .1) in
-    let e = held (ascii ", ") d (omega arith) (c .before .before .before .before .before .before .before .before .put4 .ensures) in
+    let e = held (ascii ", ") d (omega arith) put4-ensures in
     let q = c .before .before .before .before .before .put-decimal2 .ensures in
     let f = held (decimal _) e (omega arith) (q .0, q .1) in
     let g = held (ascii ")") f (omega arith) (c .before .put5 .ensures) in
-    (record-held g ∙ rw (c .before .before .before .before .before .before .before .before .before .before .before .before .scale .given .1, c .before .before .before .before .before .before .before .before .before .before .before .before .before .before .before .before .before .before .before .before .before .before .precision .given .1), omega arith)
+    (record-held g ∙ rw (scale-given .1, precision-given .1), omega arith)
 
 pub numeric-sql-string-spec : {M : Type 1} → statement M
 numeric-sql-string-spec =

@@ -1,42 +1,26 @@
--- The end of the row's text.
-use Prim.Native.Nat.{_-_}
-use native.Mathlib.Omega.{arith}
-use mathlib.Core.Path.{ap, _∙_}
-use lib.ListN.{length, drop, length-drop}
-use lib.Seq.{take-all}
-use borrow.Author.Needs.{needs}
+-- The part where the name stands.
+use Rattle.parts.proofs.SqlName.{name-part, name-refusal, name-lies-in}
+use Rattle.parts.specs.Parts.{rowText, partOf, numberIn, placeIn}
 use denote.Ref.{now}
-use Rattle.parts.specs.Parts.{sqlName}
+use mathlib.Core.Path.{ap, _∙_}
+use borrow.Author.Needs.{needs}
 use Rattle.parts.proofs.sql_name.Statement.{statement}
 use Rattle.parts.proofs.sql_name.Tie as tie
 
-row-text-requires : tie.Need-row-text-requires
-row-text-requires c κs = search needs
+place-sql-name-requires : tie.Need-place-sql-name-requires
+place-sql-name-requires c κs = search needs
 
-last-start-requires : tie.Need-last-start-requires
-last-start-requires c κs = search needs
-
-sub-result : tie.Need-sub-result
-sub-result c = search needs
-
-part-result-start : tie.Need-part-result-start
-part-result-start c = search needs
-
-part-result-end : tie.Need-part-result-end
-part-result-end c = search needs
+part-at-requires : tie.Need-part-at-requires
+part-at-requires c κs = let args = c .before .before .before .before .args in name-lies-in (now (args .section)) (args .row) (c .before .before .place-sql-name .result) (c .before .before .place-sql-name .ensures)
 
 returns : tie.Need-returns
 returns c =
-    let e = c .before .before .row-text .ensures in let name = now (c .before .before .row-text .result) in let start = c .before .last-start .result in
-    (take-all (length name - start) (drop start name) (simp length-drop (omega arith)) ∙ c .before .last-start .ensures .1 ∙ ap sqlName (e .0), e .1)
+    let args = c .before .before .before .before .before .args in
+    let s = now (args .section) in
+    let e = c .before .before .before .place-sql-name .ensures in
+    let p = c .part-at .ensures in
+    let n = name-refusal s (rowText s (args .row)) in
+    (p .0 ∙ ap (partOf s) e ∙ name-part s (args .row), (p .1 .0 ∙ ap numberIn e ∙ n .0, p .1 .1 ∙ ap placeIn e ∙ n .1))
 
 pub sql-name-spec : {M : Type 1} → statement M
-sql-name-spec =
-    tie.close
-    (tie.spec
-    row-text-requires
-    last-start-requires
-    sub-result
-    part-result-start
-    part-result-end
-    returns)
+sql-name-spec = tie.close (tie.spec place-sql-name-requires part-at-requires returns)

@@ -6,7 +6,7 @@ use lib.ListN.{length}
 use borrow.Author.Needs.{needs}
 use denote.Ref.{now}
 use Rattle.paste.specs.Private.{copied}
-use Rattle.paste.proofs.Copied.{block-copied, copied-none, copied-on, copied-all}
+use Rattle.paste.proofs.Copied.{byte-copied, copied-none, copied-on, copied-all}
 use Rattle.paste.proofs.copy_each.Statement.{statement}
 use Rattle.paste.proofs.copy_each.Tie as tie
 
@@ -38,7 +38,7 @@ loop-again : tie.Need-loop-again Inv-loop μ-loop
 loop-again c =
     let a = c .before .before .before .args in
     let x = c .before .before .loop in
-    (search needs, search needs, copied-on (now (a .out)) (a .at) (now (a .bytes)) (omega arith) 0 (x .i) (x .i + 1) (omega arith) (omega arith) (omega arith) (x .inv .2) (block-copied _ _ _ (omega arith) (x .i) 0 (omega arith)))
+    (search needs, search needs, copied-on (now (a .out)) (a .at) (now (a .bytes)) (omega arith) 0 (x .i) (x .i + 1) (omega arith) (omega arith) (omega arith) (x .inv .2) (byte-copied _ _ _ (omega arith) (x .i) (omega arith)))
 
 same-length : tie.Need-same-length Inv-loop μ-loop
 same-length c = search needs

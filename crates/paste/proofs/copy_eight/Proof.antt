@@ -1,145 +1,57 @@
--- The eight bytes read are stored.
+-- Four bytes are read and stored, and the next four.
 use native.Mathlib.Omega.{arith}
-use lib.ListN.{length-set}
+use mathlib.Core.Path.{refl}
 use borrow.Author.Needs.{needs}
 use denote.Ref.{now}
-use Rattle.paste.proofs.Copied.{block-copied}
+use Prim.Native.Nat.{_+_}
+use Rattle.paste.proofs.Copied.{copied-on, part-copied}
 use Rattle.paste.proofs.copy_eight.Statement.{statement}
 use Rattle.paste.proofs.copy_eight.Tie as tie
 
-shared-slice-read-b0 : tie.Need-shared-slice-read-b0
-shared-slice-read-b0 c = search needs
+add-j : tie.Need-add-j
+add-j c = search needs
 
-add-b1 : tie.Need-add-b1
-add-b1 c = search needs
+four-at-requires : tie.Need-four-at-requires
+four-at-requires c κs = search needs
 
-shared-slice-read-b1 : tie.Need-shared-slice-read-b1
-shared-slice-read-b1 c = search needs
+four-at-requires-2 : tie.Need-four-at-requires-2
+four-at-requires-2 c κs = search needs
 
-add-b2 : tie.Need-add-b2
-add-b2 c = search needs
+add-put-four : tie.Need-add-put-four
+add-put-four c = search needs
 
-shared-slice-read-b2 : tie.Need-shared-slice-read-b2
-shared-slice-read-b2 c = search needs
+put-four-requires : tie.Need-put-four-requires
+put-four-requires c κs = search needs
 
-add-b3 : tie.Need-add-b3
-add-b3 c = search needs
+add-put-four-2 : tie.Need-add-put-four-2
+add-put-four-2 c = search needs
 
-shared-slice-read-b3 : tie.Need-shared-slice-read-b3
-shared-slice-read-b3 c = search needs
-
-add-b4 : tie.Need-add-b4
-add-b4 c = search needs
-
-shared-slice-read-b4 : tie.Need-shared-slice-read-b4
-shared-slice-read-b4 c = search needs
-
-add-b5 : tie.Need-add-b5
-add-b5 c = search needs
-
-shared-slice-read-b5 : tie.Need-shared-slice-read-b5
-shared-slice-read-b5 c = search needs
-
-add-b6 : tie.Need-add-b6
-add-b6 c = search needs
-
-shared-slice-read-b6 : tie.Need-shared-slice-read-b6
-shared-slice-read-b6 c = search needs
-
-add-b7 : tie.Need-add-b7
-add-b7 c = search needs
-
-shared-slice-read-b7 : tie.Need-shared-slice-read-b7
-shared-slice-read-b7 c = search needs
-
-add-to : tie.Need-add-to
-add-to c = search needs
-
-slice-write-out : tie.Need-slice-write-out
-slice-write-out c = search needs
-
-add-out : tie.Need-add-out
-add-out c = search needs
-
-slice-write-out-2 : tie.Need-slice-write-out-2
-slice-write-out-2 c = simp length-set (omega arith)
-
-add-out-2 : tie.Need-add-out-2
-add-out-2 c = search needs
-
-slice-write-out-3 : tie.Need-slice-write-out-3
-slice-write-out-3 c = simp length-set (omega arith)
-
-add-out-3 : tie.Need-add-out-3
-add-out-3 c = search needs
-
-slice-write-out-4 : tie.Need-slice-write-out-4
-slice-write-out-4 c = simp length-set (omega arith)
-
-add-out-4 : tie.Need-add-out-4
-add-out-4 c = search needs
-
-slice-write-out-5 : tie.Need-slice-write-out-5
-slice-write-out-5 c = simp length-set (omega arith)
-
-add-out-5 : tie.Need-add-out-5
-add-out-5 c = search needs
-
-slice-write-out-6 : tie.Need-slice-write-out-6
-slice-write-out-6 c = simp length-set (omega arith)
-
-add-out-6 : tie.Need-add-out-6
-add-out-6 c = search needs
-
-slice-write-out-7 : tie.Need-slice-write-out-7
-slice-write-out-7 c = simp length-set (omega arith)
-
-add-out-7 : tie.Need-add-out-7
-add-out-7 c = search needs
-
-slice-write-out-8 : tie.Need-slice-write-out-8
-slice-write-out-8 c = simp length-set (omega arith)
+put-four-requires-2 : tie.Need-put-four-requires-2
+put-four-requires-2 c κs = search needs
 
 same-length : tie.Need-same-length
-same-length c = simp length-set
+same-length c = search needs
 
 returns : tie.Need-returns
-returns c = let a = c .before .before .before .before .before .before .before .before .args in block-copied (now (a .out)) (a .at) (now (a .bytes)) (omega arith) (a .i) 7 (omega arith)
+returns c =
+    let a = c .before .before .before .before .before .before .before .before .before .before .before .before .args in
+    let four-at = c .before .before .before .before .before .before .before .before .before .four-at .ensures in
+    let four-at2 = c .before .before .before .before .before .before .before .before .four-at2 .ensures in
+    let put-four = c .before .before .before .before .before .before .put-four .ensures in
+    copied-on (now (a .out)) (a .at) (now (a .bytes)) (omega arith) (a .i) (a .i + 4) (a .i + 8) (omega arith) (omega arith) (omega arith)
+    (part-copied _ _ _ _ 4 _ refl four-at put-four)
+    (part-copied _ _ _ _ 4 _ (omega arith) four-at2 (c .before .before .put-four2 .ensures))
 
 pub copy-eight-spec : {M : Type 1} → statement M
 copy-eight-spec =
     tie.close
     (tie.spec
-    shared-slice-read-b0
-    add-b1
-    shared-slice-read-b1
-    add-b2
-    shared-slice-read-b2
-    add-b3
-    shared-slice-read-b3
-    add-b4
-    shared-slice-read-b4
-    add-b5
-    shared-slice-read-b5
-    add-b6
-    shared-slice-read-b6
-    add-b7
-    shared-slice-read-b7
-    add-to
-    slice-write-out
-    add-out
-    slice-write-out-2
-    add-out-2
-    slice-write-out-3
-    add-out-3
-    slice-write-out-4
-    add-out-4
-    slice-write-out-5
-    add-out-5
-    slice-write-out-6
-    add-out-6
-    slice-write-out-7
-    add-out-7
-    slice-write-out-8
+    add-j
+    four-at-requires
+    four-at-requires-2
+    add-put-four
+    put-four-requires
+    add-put-four-2
+    put-four-requires-2
     same-length
     returns)

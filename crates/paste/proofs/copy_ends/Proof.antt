@@ -20,8 +20,9 @@ same-length c = search needs
 
 returns : tie.Need-returns
 returns c =
+    let copy-blocks-ensures = c .before .before .before .before .before .before .copy-blocks .ensures in
     let a = c .before .before .before .before .before .before .before .before .before .before .args in
-    copied-ends (now (a .out)) (a .at) (now (a .bytes)) (omega arith) _ _ _ (omega arith) (omega arith) (omega arith) (c .before .before .before .before .before .before .copy-blocks .ensures) (c .before .before .copy-blocks2 .ensures)
+    copied-ends (now (a .out)) (a .at) (now (a .bytes)) (omega arith) _ _ _ (omega arith) (omega arith) (omega arith) copy-blocks-ensures (c .before .before .copy-blocks2 .ensures)
 
 pub copy-ends-spec : {M : Type 1} → statement M
 copy-ends-spec =

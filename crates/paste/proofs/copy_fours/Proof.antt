@@ -20,8 +20,9 @@ same-length c = search needs
 
 returns : tie.Need-returns
 returns c =
+    let copy-four-ensures = c .before .before .before .before .before .before .copy-four .ensures in
     let a = c .before .before .before .before .before .before .before .before .before .before .args in
-    copied-ends (now (a .out)) (a .at) (now (a .bytes)) (omega arith) _ _ _ (omega arith) (omega arith) (omega arith) (c .before .before .before .before .before .before .copy-four .ensures) (c .before .before .copy-four2 .ensures)
+    copied-ends (now (a .out)) (a .at) (now (a .bytes)) (omega arith) _ _ _ (omega arith) (omega arith) (omega arith) copy-four-ensures (c .before .before .copy-four2 .ensures)
 
 pub copy-fours-spec : {M : Type 1} → statement M
 copy-fours-spec =

@@ -12,11 +12,11 @@ Inv-loop s at₀ count₀ size₀ at count size = Before s at count size
 abbrev μ-loop : tie.MeasureT-loop
 μ-loop s at₀ count₀ size₀ at count size = length s - at
 
-length-at-requires : tie.Need-length-at-requires Inv-loop μ-loop
-length-at-requires c κs = tt
+number-at-requires : tie.Need-number-at-requires Inv-loop μ-loop
+number-at-requires c κs = tt
 
 loop-holds : tie.Need-loop-holds Inv-loop μ-loop
-loop-holds c = before-holds (c .before .before .pre) (c .length-at .result) (c .length-at .ensures)
+loop-holds c = before-holds (c .before .before .pre) (c .number-at .result) (c .number-at .ensures)
 
 add-payload : tie.Need-add-payload Inv-loop μ-loop
 add-payload c = let t = before-step (c .before .loop .inv) (c .loop-test .taken) in omega (arith, t .payload-in .begins, t .payload-in .small)
@@ -33,14 +33,14 @@ pairs-with-later-requires c κs = let t = before-step (c .before .loop .inv) (c 
 add-count : tie.Need-add-count Inv-loop μ-loop
 add-count c = omega (arith, c .before .before .loop .inv .bound, c .before .before .loop .inv .rest .inside, c .before .before .loop .inv .rest .small, c .pairs-with-later .ensures .small)
 
-length-at-requires-2 : tie.Need-length-at-requires-2 Inv-loop μ-loop
-length-at-requires-2 c κs = tt
+number-at-requires-2 : tie.Need-number-at-requires-2 Inv-loop μ-loop
+number-at-requires-2 c κs = tt
 
 loop-less : tie.Need-loop-less Inv-loop μ-loop
 loop-less c = let t = before-step (c .before .before .before .loop .inv) (c .before .before .loop-test .taken) in omega (arith, t .rest .inside)
 
 loop-again : tie.Need-loop-again Inv-loop μ-loop
-loop-again c = before-again (c .before .before .before .loop .inv) (c .before .before .loop-test .taken) (c .before .pairs-with-later .result) (c .length-at2 .result) (c .before .pairs-with-later .ensures) (c .length-at2 .ensures)
+loop-again c = before-again (c .before .before .before .loop .inv) (c .before .before .loop-test .taken) (c .before .pairs-with-later .result) (c .number-at2 .result) (c .before .pairs-with-later .ensures) (c .number-at2 .ensures)
 
 returns : tie.Need-returns Inv-loop μ-loop
 returns c = before-ends (c .before .loop .inv) (c .loop-test .left)
@@ -51,14 +51,14 @@ count-pairs-spec =
     (tie.spec
     Inv-loop
     μ-loop
-    length-at-requires
+    number-at-requires
     loop-holds
     add-payload
     cast-at
     add-at
     pairs-with-later-requires
     add-count
-    length-at-requires-2
+    number-at-requires-2
     loop-less
     loop-again
     returns)

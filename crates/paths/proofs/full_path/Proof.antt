@@ -1,17 +1,16 @@
 -- Each kind with a full_path, and the rest.
-use native.Mathlib.Omega.{arith}
-use mathlib.Core.Path.{sym, _∙_}
-use borrow.Author.Needs.{needs}
 use denote.Ref.{now}
+use mathlib.Core.Path.{sym, _∙_}
 use Rattle.paths.proofs.Fields.{place-in, place-none}
+use borrow.Author.Needs.{needs}
 use Rattle.paths.proofs.full_path.Statement.{statement}
 use Rattle.paths.proofs.full_path.Tie as tie
 
-shared-slice-read-kind : tie.Need-shared-slice-read-kind
-shared-slice-read-kind c = search needs
+shared-slice-read-wide : tie.Need-shared-slice-read-wide
+shared-slice-read-wide c = search needs
 
-cast-kind : tie.Need-cast-kind
-cast-kind c = omega (arith, c .shared-slice-known2 .given (c .before .before .args .payload))
+wide-requires : tie.Need-wide-requires
+wide-requires c κs = search needs
 
 add-at : tie.Need-add-at
 add-at c = search needs
@@ -50,38 +49,57 @@ behind-text-requires-4 : tie.Need-behind-text-requires-4
 behind-text-requires-4 c κs = search needs
 
 returns : tie.Need-returns
-returns c = c .behind-two-texts .ensures .0 ∙ sym (place-in (now (c .before .before .before .before .args .s)) (c .before .before .before .before .args .payload) 2 (c .before .match .keys1))
+returns c =
+    let start = c .before .before .before .before .before in
+    c .behind-two-texts .ensures .0 ∙ sym (place-in (now (start .args .s)) (start .args .payload) 2 (sym (c .before .before .wide .ensures .0) ∙ c .before .match .keys1))
 
 returns-2 : tie.Need-returns-2
-returns-2 c = rw (c .before .behind-two-texts2 .ensures .0) at (c .behind-text .ensures .0) ∙ sym (place-in (now (c .before .before .before .before .before .args .s)) (c .before .before .before .before .before .args .payload) 3 (c .before .before .match .keys2))
+returns-2 c =
+    let start = c .before .before .before .before .before .before in
+    rw (c .before .behind-two-texts2 .ensures .0) at (c .behind-text .ensures .0) ∙ sym (place-in (now (start .args .s)) (start .args .payload) 3 (sym (c .before .before .before .wide .ensures .0) ∙ c .before .before .match .keys2))
 
 returns-3 : tie.Need-returns-3
-returns-3 c = rw (c .before .behind-name-file-line .ensures .0) at (c .behind-text2 .ensures .0) ∙ sym (place-in (now (c .before .before .before .before .before .args .s)) (c .before .before .before .before .before .args .payload) 4 (c .before .before .match .keys3))
+returns-3 c =
+    let start = c .before .before .before .before .before .before in
+    rw (c .before .behind-name-file-line .ensures .0) at (c .behind-text2 .ensures .0) ∙ sym (place-in (now (start .args .s)) (start .args .payload) 4 (sym (c .before .before .before .wide .ensures .0) ∙ c .before .before .match .keys3))
 
 returns-4 : tie.Need-returns-4
-returns-4 c = rw (c .before .behind-name-file-line2 .ensures .0) at (c .behind-text3 .ensures .0) ∙ sym (place-in (now (c .before .before .before .before .before .args .s)) (c .before .before .before .before .before .args .payload) 5 (c .before .before .match .keys4))
+returns-4 c =
+    let start = c .before .before .before .before .before .before in
+    rw (c .before .behind-name-file-line2 .ensures .0) at (c .behind-text3 .ensures .0) ∙ sym (place-in (now (start .args .s)) (start .args .payload) 5 (sym (c .before .before .before .wide .ensures .0) ∙ c .before .before .match .keys4))
 
 returns-5 : tie.Need-returns-5
-returns-5 c = c .behind-name-file-line3 .ensures .0 ∙ sym (place-in (now (c .before .before .before .before .args .s)) (c .before .before .before .before .args .payload) 6 (c .before .match .keys5))
+returns-5 c =
+    let start = c .before .before .before .before .before in
+    c .behind-name-file-line3 .ensures .0 ∙ sym (place-in (now (start .args .s)) (start .args .payload) 6 (sym (c .before .before .wide .ensures .0) ∙ c .before .match .keys5))
 
 returns-6 : tie.Need-returns-6
-returns-6 c = c .behind-name-file-line4 .ensures .0 ∙ sym (place-in (now (c .before .before .before .before .args .s)) (c .before .before .before .before .args .payload) 7 (c .before .match .keys6))
+returns-6 c =
+    let start = c .before .before .before .before .before in
+    c .behind-name-file-line4 .ensures .0 ∙ sym (place-in (now (start .args .s)) (start .args .payload) 7 (sym (c .before .before .wide .ensures .0) ∙ c .before .match .keys6))
 
 returns-7 : tie.Need-returns-7
-returns-7 c = sym (place-in (now (c .before .before .before .args .s)) (c .before .before .before .args .payload) 8 (c .match .keys7))
+returns-7 c =
+    let start = c .before .before .before .before in
+    sym (place-in (now (start .args .s)) (start .args .payload) 8 (sym (c .before .wide .ensures .0) ∙ c .match .keys7))
 
 returns-8 : tie.Need-returns-8
-returns-8 c = rw (c .before .behind-name-file-line5 .ensures .0) at (c .behind-text4 .ensures .0) ∙ sym (place-in (now (c .before .before .before .before .before .args .s)) (c .before .before .before .before .before .args .payload) 9 (c .before .before .match .keys8))
+returns-8 c =
+    let start = c .before .before .before .before .before .before in
+    rw (c .before .behind-name-file-line5 .ensures .0) at (c .behind-text4 .ensures .0) ∙ sym (place-in (now (start .args .s)) (start .args .payload) 9 (sym (c .before .before .before .wide .ensures .0) ∙ c .before .before .match .keys8))
 
 returns-9 : tie.Need-returns-9
-returns-9 c = let r = c .match .rest in sym (place-none (now (c .before .before .before .args .s)) (c .before .before .before .args .payload) (r .0 .0 .0 .0 .0 .0 .0 .1, (r .0 .0 .0 .0 .0 .0 .1, (r .0 .0 .0 .0 .0 .1, (r .0 .0 .0 .0 .1, (r .0 .0 .0 .1, (r .0 .0 .1, (r .0 .1, (r .1, tt)))))))))
+returns-9 c =
+    let start = c .before .before .before .before in
+    let r = c .match .rest in
+    sym (place-none (now (start .args .s)) (start .args .payload) _ (c .before .wide .ensures .0) (r .0 .0 .0 .0 .0 .0 .0 .1, (r .0 .0 .0 .0 .0 .0 .1, (r .0 .0 .0 .0 .0 .1, (r .0 .0 .0 .0 .1, (r .0 .0 .0 .1, (r .0 .0 .1, (r .0 .1, (r .1, tt)))))))))
 
 pub full-path-spec : {M : Type 1} → statement M
 full-path-spec =
     tie.close
     (tie.spec
-    shared-slice-read-kind
-    cast-kind
+    shared-slice-read-wide
+    wide-requires
     add-at
     behind-two-texts-requires
     behind-two-texts-requires-2

@@ -16,10 +16,14 @@ same-text-requires : tie.Need-same-text-requires
 same-text-requires c κs = (c .before .before .before .pre .0, path-in (now (c .before .before .before .args .s)) (c .before .before .before .args .payload) (c .before .full-path .result) (c .before .full-path .ensures) (c .before .before .before .pre .1) (c .if1 .left))
 
 returns-2 : tie.Need-returns-2
-returns-2 c = (rw (path-there (now (c .before .before .before .before .before .args .s)) (c .before .before .before .before .before .args .payload) (c .before .before .before .full-path .result) (c .before .before .before .full-path .ensures) (c .before .before .if1 .left), ← c .before .same-text .ensures, c .if2 .taken), omega arith)
+returns-2 c =
+    let args = c .before .before .before .before .before .args in
+    (rw (path-there (now (args .s)) (args .payload) (c .before .before .before .full-path .result) (c .before .before .before .full-path .ensures) (c .before .before .if1 .left), ← c .before .same-text .ensures, c .if2 .taken), omega arith)
 
 returns-3 : tie.Need-returns-3
-returns-3 c = (rw (path-there (now (c .before .before .before .before .before .args .s)) (c .before .before .before .before .before .args .payload) (c .before .before .before .full-path .result) (c .before .before .before .full-path .ensures) (c .before .before .if1 .left), ← c .before .same-text .ensures, c .if2 .left), omega arith)
+returns-3 c =
+    let args = c .before .before .before .before .before .args in
+    (rw (path-there (now (args .s)) (args .payload) (c .before .before .before .full-path .result) (c .before .before .before .full-path .ensures) (c .before .before .if1 .left), ← c .before .same-text .ensures, c .if2 .left), omega arith)
 
 pub pair-spec : {M : Type 1} → statement M
 pair-spec = tie.close (tie.spec full-path-requires returns same-text-requires returns-2 returns-3)

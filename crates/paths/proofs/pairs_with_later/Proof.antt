@@ -19,11 +19,11 @@ full-path-requires c κs = c .before .pre .0
 returns : tie.Need-returns Inv-loop μ-loop
 returns c = none-counted (now (c .before .before .before .args .s)) (c .before .before .before .args .payload) (c .before .before .before .args .next) (c .before .full-path .result) (c .before .full-path .ensures) (c .if1 .taken)
 
-length-at-requires : tie.Need-length-at-requires Inv-loop μ-loop
-length-at-requires c κs = tt
+number-at-requires : tie.Need-number-at-requires Inv-loop μ-loop
+number-at-requires c κs = tt
 
 loop-holds : tie.Need-loop-holds Inv-loop μ-loop
-loop-holds c = later-holds (path-in (now (c .before .before .before .before .args .s)) (c .before .before .before .before .args .payload) (c .before .before .full-path .result) (c .before .before .full-path .ensures) (c .before .before .before .before .pre .0) (c .before .if1 .left)) (c .before .before .before .before .pre .1) (c .length-at .result) (c .length-at .ensures)
+loop-holds c = later-holds (path-in (now (c .before .before .before .before .args .s)) (c .before .before .before .before .args .payload) (c .before .before .full-path .result) (c .before .before .full-path .ensures) (c .before .before .before .before .pre .0) (c .before .if1 .left)) (c .before .before .before .before .pre .1) (c .number-at .result) (c .number-at .ensures)
 
 add-other : tie.Need-add-other Inv-loop μ-loop
 add-other c = let t = later-step (c .before .loop .inv) (c .loop-test .taken) in omega (arith, t .payload-in .begins, t .payload-in .small)
@@ -40,17 +40,19 @@ cast-at c = let t = later-step (c .before .before .loop .inv) (c .before .loop-t
 add-at : tie.Need-add-at Inv-loop μ-loop
 add-at c = let t = later-step (c .before .before .loop .inv) (c .before .loop-test .taken) in omega (arith, t .rest .inside, t .rest .small)
 
-length-at-requires-2 : tie.Need-length-at-requires-2 Inv-loop μ-loop
-length-at-requires-2 c κs = tt
+number-at-requires-2 : tie.Need-number-at-requires-2 Inv-loop μ-loop
+number-at-requires-2 c κs = tt
 
 loop-less : tie.Need-loop-less Inv-loop μ-loop
 loop-less c = let t = later-step (c .before .before .before .loop .inv) (c .before .before .loop-test .taken) in omega (arith, t .rest .inside)
 
 loop-again : tie.Need-loop-again Inv-loop μ-loop
-loop-again c = later-again (c .before .before .before .loop .inv) (c .before .before .loop-test .taken) (c .before .pair .result) (c .length-at2 .result) (c .before .pair .ensures .0) (c .before .pair .ensures .1) (c .length-at2 .ensures)
+loop-again c = later-again (c .before .before .before .loop .inv) (c .before .before .loop-test .taken) (c .before .pair .result) (c .number-at2 .result) (c .before .pair .ensures .0) (c .before .pair .ensures .1) (c .number-at2 .ensures)
 
 returns-2 : tie.Need-returns-2 Inv-loop μ-loop
-returns-2 c = later-ends (c .before .loop .inv) (c .before .before .before .before .before .before .args .payload) (c .before .before .before .before .full-path .ensures) (c .before .before .before .if1 .left) (c .loop-test .left)
+returns-2 c =
+    let args = c .before .before .before .before .before .before .args in
+    later-ends (c .before .loop .inv) (args .payload) (c .before .before .before .before .full-path .ensures) (c .before .before .before .if1 .left) (c .loop-test .left)
 
 pub pairs-with-later-spec : {M : Type 1} → statement M
 pairs-with-later-spec =
@@ -60,14 +62,14 @@ pairs-with-later-spec =
     μ-loop
     full-path-requires
     returns
-    length-at-requires
+    number-at-requires
     loop-holds
     add-other
     pair-requires
     add-count
     cast-at
     add-at
-    length-at-requires-2
+    number-at-requires-2
     loop-less
     loop-again
     returns-2)

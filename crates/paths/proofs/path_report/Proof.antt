@@ -1,9 +1,9 @@
 -- Accepted, refused by 13, or refused otherwise.
-use native.Mathlib.Omega.{arith}
-use mathlib.Core.List.{[]}
-use borrow.Author.Needs.{needs}
-use denote.Ref.{now}
 use Rattle.paths.proofs.Report.{passed, report-passed, report-stopped}
+use denote.Ref.{now}
+use mathlib.Core.List.{[]}
+use native.Mathlib.Omega.{arith}
+use borrow.Author.Needs.{needs}
 use Rattle.paths.proofs.path_report.Statement.{statement}
 use Rattle.paths.proofs.path_report.Tie as tie
 
@@ -17,22 +17,42 @@ enum-told : tie.Need-enum-told
 enum-told c = search needs
 
 count-pairs-requires : tie.Need-count-pairs-requires
-count-pairs-requires c κs = passed (now (c .before .before .before .before .before .before .args .section)) (λ i h. omega (arith, c .before .before .before .before .before .shared-slice-known .given i)) [] _ (c .before .before .before .decode-entities .result) (c .before .before .before .decode-entities .ensures .0) _ (c .enum-told .given .1) tt
+count-pairs-requires c κs =
+    let start = c .before .before .before .before .before .before in
+    let bytes = c .before .before .before .before .before .shared-slice-known in
+    let decode-entities = c .before .before .before .decode-entities in
+    passed (now (start .args .section)) (λ i h. omega (arith, bytes .given i)) [] _ (decode-entities .result) (decode-entities .ensures .0) _ (c .enum-told .given .1) tt
 
 enum-known-answer : tie.Need-enum-known-answer
 enum-known-answer c = search needs
 
 returns : tie.Need-returns
-returns c = report-stopped (now (c .before .before .before .before .before .before .before .before .args .section)) (λ i h. omega (arith, c .before .before .before .before .before .before .before .shared-slice-known .given i)) [] _ (c .before .before .before .before .before .decode-entities .result) (c .before .before .before .before .before .decode-entities .ensures .0) _ _ (c .before .before .answer .given .1) (c .if1 .taken)
+returns c =
+    let start = c .before .before .before .before .before .before .before .before .before in
+    let bytes = c .before .before .before .before .before .before .before .before .shared-slice-known in
+    let decode-entities = c .before .before .before .before .before .before .decode-entities in
+    report-stopped (now (start .args .section)) (λ i h. omega (arith, bytes .given i)) [] _ (decode-entities .result) (decode-entities .ensures .0) _ (c .before .before .before .answer .given .1) (c .if1 .taken)
 
 count-pairs-requires-2 : tie.Need-count-pairs-requires-2
-count-pairs-requires-2 c κs = passed (now (c .before .before .before .before .before .before .before .before .args .section)) (λ i h. omega (arith, c .before .before .before .before .before .before .before .shared-slice-known .given i)) [] _ (c .before .before .before .before .before .decode-entities .result) (c .before .before .before .before .before .decode-entities .ensures .0) _ (c .before .before .answer .given .1) (c .if1 .left)
+count-pairs-requires-2 c κs =
+    let start = c .before .before .before .before .before .before .before .before .before in
+    let bytes = c .before .before .before .before .before .before .before .before .shared-slice-known in
+    let decode-entities = c .before .before .before .before .before .before .decode-entities in
+    passed (now (start .args .section)) (λ i h. omega (arith, bytes .given i)) [] _ (decode-entities .result) (decode-entities .ensures .0) _ (c .before .before .before .answer .given .1) (c .if1 .left)
 
 returns-2 : tie.Need-returns-2
-returns-2 c = report-passed (now (c .before .before .before .before .before .before .before .args .section)) (λ i h. omega (arith, c .before .before .before .before .before .before .shared-slice-known .given i)) [] _ (c .before .before .before .before .decode-entities .result) (c .before .before .before .before .decode-entities .ensures .0) _ (c .before .enum-told .given .1) tt (c .count-pairs .result) (c .count-pairs .ensures)
+returns-2 c =
+    let start = c .before .before .before .before .before .before .before in
+    let bytes = c .before .before .before .before .before .before .shared-slice-known in
+    let decode-entities = c .before .before .before .before .decode-entities in
+    report-passed (now (start .args .section)) (λ i h. omega (arith, bytes .given i)) [] _ (decode-entities .result) (decode-entities .ensures .0) _ (c .before .enum-told .given .1) tt (c .count-pairs .result) (c .count-pairs .ensures)
 
 returns-3 : tie.Need-returns-3
-returns-3 c = report-passed (now (c .before .before .before .before .before .before .before .before .before .args .section)) (λ i h. omega (arith, c .before .before .before .before .before .before .before .before .shared-slice-known .given i)) [] _ (c .before .before .before .before .before .before .decode-entities .result) (c .before .before .before .before .before .before .decode-entities .ensures .0) _ (c .before .before .before .answer .given .1) (c .before .if1 .left) (c .count-pairs2 .result) (c .count-pairs2 .ensures)
+returns-3 c =
+    let start = c .before .before .before .before .before .before .before .before .before .before in
+    let bytes = c .before .before .before .before .before .before .before .before .before .shared-slice-known in
+    let decode-entities = c .before .before .before .before .before .before .before .decode-entities in
+    report-passed (now (start .args .section)) (λ i h. omega (arith, bytes .given i)) [] _ (decode-entities .result) (decode-entities .ensures .0) _ (c .before .before .before .before .answer .given .1) (c .before .if1 .left) (c .count-pairs2 .result) (c .count-pairs2 .ensures)
 
 pub path-report-spec : {M : Type 1} → statement M
 path-report-spec =

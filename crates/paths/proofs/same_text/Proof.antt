@@ -8,20 +8,20 @@ use Rattle.paths.proofs.Walk.{text-other, text-parts}
 use Rattle.paths.proofs.same_text.Statement.{statement}
 use Rattle.paths.proofs.same_text.Tie as tie
 
-length-at-requires : tie.Need-length-at-requires
-length-at-requires c κs = search needs
+number-at-requires : tie.Need-number-at-requires
+number-at-requires c κs = search needs
 
 cast-size : tie.Need-cast-size
 cast-size c = search needs
 
-length-at-requires-2 : tie.Need-length-at-requires-2
-length-at-requires-2 c κs = search needs
+number-at-requires-2 : tie.Need-number-at-requires-2
+number-at-requires-2 c κs = search needs
 
 cast-if1 : tie.Need-cast-if1
 cast-if1 c = search needs
 
 returns : tie.Need-returns
-returns c = sym (text-other (now (c .before .before .before .before .args .s)) (c .before .before .before .before .args .a) (c .before .before .before .before .args .b) (c .before .before .before .before .pre .0) (c .before .before .before .before .pre .1) (λ e. c .if1 .taken (c .before .before .length-at .ensures ∙ e ∙ sym (c .before .length-at2 .ensures))))
+returns c = sym (text-other (now (c .before .before .before .before .args .s)) (c .before .before .before .before .args .a) (c .before .before .before .before .args .b) (c .before .before .before .before .pre .0) (c .before .before .before .before .pre .1) (λ e. c .if1 .taken (c .before .before .number-at .ensures ∙ e ∙ sym (c .before .number-at2 .ensures))))
 
 add-i : tie.Need-add-i
 add-i c = search needs
@@ -58,18 +58,20 @@ same-requires c κs = search needs
 
 returns-2 : tie.Need-returns-2
 returns-2 c =
-    let a = c .before .before .before .before .before .before .before .args .a in
-    let b = c .before .before .before .before .before .before .before .args .b in
-    let n = c .before .before .before .before .before .length-at .result in
-    c .same .ensures ∙ text-parts (now (c .before .before .before .before .before .before .before .args .s)) a b n (a + 4 + n - (a + 4)) (b + 4 + n - (b + 4)) (c .before .before .before .before .before .length-at .ensures) (c .before .before .before .if1 .left ∙ c .before .before .before .before .length-at2 .ensures) (omega arith) (omega arith)
+    let args = c .before .before .before .before .before .before .before .args in
+    let number-at-ensures = c .before .before .before .before .before .number-at .ensures in
+    let a = args .a in
+    let b = args .b in
+    let n = c .before .before .before .before .before .number-at .result in
+    c .same .ensures ∙ text-parts (now (args .s)) a b n (a + 4 + n - (a + 4)) (b + 4 + n - (b + 4)) number-at-ensures (c .before .before .before .if1 .left ∙ c .before .before .before .before .number-at2 .ensures) (omega arith) (omega arith)
 
 pub same-text-spec : {M : Type 1} → statement M
 same-text-spec =
     tie.close
     (tie.spec
-    length-at-requires
+    number-at-requires
     cast-size
-    length-at-requires-2
+    number-at-requires-2
     cast-if1
     returns
     add-i

@@ -1,20 +1,29 @@
--- Refused, or a part.
-use Prim.Native.Nat.{_-_}
-use native.Mathlib.Omega.{arith}
-use mathlib.Core.Path.{_≡_}
-use borrow.Author.Tests.{eq-eqb, ne-eqb}
+-- In the section, or refused.
+use Rattle.pgrxsc.proofs.Numbers.{part-told}
+use Rattle.pgrxsc.specs.Numbers.{partNumbers}
+use Rattle.parts.specs.Parts.{foundPart}
+use Rattle.parts.specs.declared.TextPlace.{TextPlace}
+use mathlib.Core.Path.{sym, ap, _∙_}
 use borrow.Author.Needs.{needs}
 use Rattle.pgrxsc.proofs.part_numbers.Statement.{statement}
 use Rattle.pgrxsc.proofs.part_numbers.Tie as tie
 
-returns : tie.Need-returns
-returns c = rw (ne-eqb _ 0 (c .if1 .taken))
+enum-known-place : tie.Need-enum-known-place
+enum-known-place c = search needs
 
-sub-t8 : tie.Need-sub-t8
-sub-t8 c = search needs
+enum-known-place-2 : tie.Need-enum-known-place-2
+enum-known-place-2 c = search needs
+
+refusal-numbers-requires : tie.Need-refusal-numbers-requires
+refusal-numbers-requires c κs = search needs
+
+returns : tie.Need-returns
+returns c = part-told _ _ ∙ sym (ap (λ (p : TextPlace). partNumbers (foundPart p)) (c .before .place .given .1))
 
 returns-2 : tie.Need-returns-2
-returns-2 c = let a = c .before .args in let l : a .end - (a .end - a .len) ≡ a .len = omega arith in rw (eq-eqb _ 0 (c .if1 .left), l)
+returns-2 c = c .refusal-numbers .ensures ∙ sym (ap (λ (p : TextPlace). partNumbers (foundPart p)) (c .before .before .place2 .given .1))
 
 pub part-numbers-spec : {M : Type 1} → statement M
-part-numbers-spec = tie.close (tie.spec returns sub-t8 returns-2)
+part-numbers-spec =
+    tie.close
+    (tie.spec enum-known-place enum-known-place-2 refusal-numbers-requires returns returns-2)

@@ -18,8 +18,9 @@ same-length c = search needs
 
 returns : tie.Need-returns
 returns c =
+    let shared-slice-known-given = c .before .before .before .before .before .before .shared-slice-known .given in
     let a = c .before .before .before .before .before .before .before .args in
-    value-told FunctionMetadataType 0 (now (a .bytes)) (now (a .table)) (λ i h. omega (arith, c .before .before .before .before .before .before .shared-slice-known .given i)) _ (c .before .before .before .decode-function-metadata-type .result) _ (c .answer-numbers .ensures) (c .before .before .before .decode-function-metadata-type .ensures .0)
+    value-told FunctionMetadataType 0 (now (a .bytes)) (now (a .table)) (λ i h. omega (arith, shared-slice-known-given i)) _ (c .before .before .before .decode-function-metadata-type .result) _ (c .answer-numbers .ensures) (c .before .before .before .decode-function-metadata-type .ensures .0)
 
 pub pgrxsc-read-metadata-spec : {M : Type 1} → statement M
 pgrxsc-read-metadata-spec =

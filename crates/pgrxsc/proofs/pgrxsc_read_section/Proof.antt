@@ -17,8 +17,9 @@ same-length c = search needs
 
 returns : tie.Need-returns
 returns c =
+    let shared-slice-known-given = c .before .before .before .before .before .before .shared-slice-known .given in
     let a = c .before .before .before .before .before .before .before .args in
-    section-told (now (a .bytes)) (now (a .table)) (λ i h. omega (arith, c .before .before .before .before .before .before .shared-slice-known .given i)) _ (c .before .before .before .decode-entities .result) _ (c .answer-numbers .ensures) (c .before .before .before .decode-entities .ensures .0)
+    section-told (now (a .bytes)) (now (a .table)) (λ i h. omega (arith, shared-slice-known-given i)) _ (c .before .before .before .decode-entities .result) _ (c .answer-numbers .ensures) (c .before .before .before .decode-entities .ensures .0)
 
 pub pgrxsc-read-section-spec : {M : Type 1} → statement M
 pgrxsc-read-section-spec =

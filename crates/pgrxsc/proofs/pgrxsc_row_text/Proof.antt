@@ -1,22 +1,18 @@
--- The part that the row gives, in numbers.
+-- Where the text stands, in numbers.
+use Rattle.pgrxsc.specs.Numbers.{partNumbers}
 use mathlib.Core.Path.{ap, _∙_}
 use borrow.Author.Needs.{needs}
-use Rattle.pgrxsc.specs.Numbers.{partNumbers}
-use Rattle.pgrxsc.proofs.Parts.{part-fits, part-told}
 use Rattle.pgrxsc.proofs.pgrxsc_row_text.Statement.{statement}
 use Rattle.pgrxsc.proofs.pgrxsc_row_text.Tie as tie
 
-row-text-requires : tie.Need-row-text-requires
-row-text-requires c κs = tt
-
-add-end : tie.Need-add-end
-add-end c = search needs
+place-row-text-requires : tie.Need-place-row-text-requires
+place-row-text-requires c κs = search needs
 
 part-numbers-requires : tie.Need-part-numbers-requires
-part-numbers-requires c κs = part-fits _ _ _ (c .row-text .ensures .0)
+part-numbers-requires c κs = search needs
 
 returns : tie.Need-returns
-returns c = let e = c .before .row-text .ensures in c .part-numbers .ensures ∙ ap partNumbers (part-told _ _ _ _ _ (e .0) (e .1 .0) (e .1 .1))
+returns c = c .part-numbers .ensures ∙ ap partNumbers (c .before .place-row-text .ensures)
 
 pub pgrxsc-row-text-spec : {M : Type 1} → statement M
-pgrxsc-row-text-spec = tie.close (tie.spec row-text-requires add-end part-numbers-requires returns)
+pgrxsc-row-text-spec = tie.close (tie.spec place-row-text-requires part-numbers-requires returns)

@@ -1,9 +1,9 @@
 -- In the section, in the buffer, or refused.
-use mathlib.Core.Path.{sym, ap}
-use borrow.Author.Needs.{needs}
-use Rattle.parts.specs.declared.SqlPlace.{SqlPlace}
-use Rattle.parts.specs.SqlText.{sqlAnswerOf}
 use Rattle.pgrxsc.specs.Numbers.{placeNumbers}
+use Rattle.parts.specs.SqlText.{sqlAnswerOf}
+use Rattle.parts.specs.declared.SqlPlace.{SqlPlace}
+use mathlib.Core.Path.{sym, ap, _∙_}
+use borrow.Author.Needs.{needs}
 use Rattle.pgrxsc.proofs.place_numbers.Statement.{statement}
 use Rattle.pgrxsc.proofs.place_numbers.Tie as tie
 
@@ -16,11 +16,8 @@ enum-known-place-2 c = search needs
 enum-known-place-3 : tie.Need-enum-known-place-3
 enum-known-place-3 c = search needs
 
-cast-t11 : tie.Need-cast-t11
-cast-t11 c = search needs
-
-cast-t12 : tie.Need-cast-t12
-cast-t12 c = search needs
+refusal-numbers-requires : tie.Need-refusal-numbers-requires
+refusal-numbers-requires c κs = search needs
 
 returns : tie.Need-returns
 returns c = sym (ap (λ (x : SqlPlace). placeNumbers (sqlAnswerOf x)) (c .before .place .given .1))
@@ -29,7 +26,7 @@ returns-2 : tie.Need-returns-2
 returns-2 c = sym (ap (λ (x : SqlPlace). placeNumbers (sqlAnswerOf x)) (c .before .place2 .given .1))
 
 returns-3 : tie.Need-returns-3
-returns-3 c = sym (ap (λ (x : SqlPlace). placeNumbers (sqlAnswerOf x)) (c .before .place3 .given .1))
+returns-3 c = c .refusal-numbers .ensures ∙ sym (ap (λ (x : SqlPlace). placeNumbers (sqlAnswerOf x)) (c .before .before .place3 .given .1))
 
 pub place-numbers-spec : {M : Type 1} → statement M
 place-numbers-spec =
@@ -38,8 +35,7 @@ place-numbers-spec =
     enum-known-place
     enum-known-place-2
     enum-known-place-3
-    cast-t11
-    cast-t12
+    refusal-numbers-requires
     returns
     returns-2
     returns-3)

@@ -29,13 +29,17 @@ zeros-requires : tie.Need-zeros-requires Inv-loop μ-loop
 zeros-requires c κs = (omega arith, omega arith)
 
 returns : tie.Need-returns Inv-loop μ-loop
-returns c = sym (c .before .before .before .loop .inv .1 ∙ zeros-not (c .before .zeros .result) (allZero (drop (c .before .before .before .loop .i + 64) (now (c .before .before .before .before .before .args .s)))) _ (c .before .zeros .ensures) (not-true _ (c .if1 .taken)))
+returns c =
+    let args = c .before .before .before .before .before .args in
+    sym (c .before .before .before .loop .inv .1 ∙ zeros-not (c .before .zeros .result) (allZero (drop (c .before .before .before .loop .i + 64) (now (args .s)))) _ (c .before .zeros .ensures) (not-true _ (c .if1 .taken)))
 
 loop-less : tie.Need-loop-less Inv-loop μ-loop
 loop-less c = omega arith
 
 loop-again : tie.Need-loop-again Inv-loop μ-loop
-loop-again c = (omega arith, c .before .before .before .loop .inv .1 ∙ zeros-past (c .before .zeros .result) (allZero (drop (c .before .before .before .loop .i + 64) (now (c .before .before .before .before .before .args .s)))) _ (c .before .zeros .ensures) (not-false _ (c .if1 .left)))
+loop-again c =
+    let args = c .before .before .before .before .before .args in
+    (omega arith, c .before .before .before .loop .inv .1 ∙ zeros-past (c .before .zeros .result) (allZero (drop (c .before .before .before .loop .i + 64) (now (args .s)))) _ (c .before .zeros .ensures) (not-false _ (c .if1 .left)))
 
 zeros-requires-2 : tie.Need-zeros-requires-2 Inv-loop μ-loop
 zeros-requires-2 c κs = (omega arith, omega arith)

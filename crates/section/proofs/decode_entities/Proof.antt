@@ -1,83 +1,88 @@
 -- Too many bytes, a refusal of the framing, or the reading of the entries.
-use Rattle.section.proofs.Decode.{promised, framing-whole, framing-refused, framing-inside, by-limit, by-framing, by-entries}
+use Rattle.section.proofs.Decode.{promised, framing-whole, framing-refused, by-limit, by-framing, by-entries}
 use denote.Ref.{now}
-use lib.Seq.{length-take-le}
-use mathlib.Core.Path.{sym}
 use native.Mathlib.Omega.{arith}
 use borrow.Author.Needs.{needs}
 use Rattle.section.proofs.decode_entities.Statement.{statement}
 use Rattle.section.proofs.decode_entities.Tie as tie
 
-new-requires : tie.Need-new-requires
-new-requires c κs = tt
-
-finish-requires : tie.Need-finish-requires
-finish-requires c κs = tt
+refuse-requires : tie.Need-refuse-requires
+refuse-requires c κs = search needs
 
 same-length : tie.Need-same-length
 same-length c = search needs
 
 returns : tie.Need-returns
-returns c = promised (now (c .before .before .before .before .before .before .before .before .args .section)) (now (c .before .before .before .before .before .before .before .before .args .table)) _ (λ i h. omega (arith, c .before .before .before .before .before .before .before .shared-slice-known .given i)) (by-limit (now (c .before .before .before .before .before .before .before .before .args .section)) (now (c .before .before .before .before .before .before .before .before .args .table)) _ (c .before .before .before .before .before .if1 .taken) _ (c .before .before .finish .ensures))
+returns c =
+    let start = c .before .before .before .before .before .before .before in
+    let s = now (start .args .section) in
+    let table = now (start .args .table) in
+    let bytes = c .before .before .before .before .before .before .shared-slice-known in
+    promised s table _ (λ i h. omega (arith, bytes .given i)) (by-limit s table _ (c .before .before .before .before .if1 .taken) (c .before .before .refuse .ensures))
 
 read-entries-requires : tie.Need-read-entries-requires
 read-entries-requires c κs = (c .before .if1 .left, (λ i h. omega (arith, c .before .before .before .shared-slice-known .given i)))
 
 framing-from-requires : tie.Need-framing-from-requires
-framing-from-requires c κs = c .before .before .read-entries .ensures .walked
+framing-from-requires c κs = search needs
 
-enum-known-number : tie.Need-enum-known-number
-enum-known-number c = search needs
+enum-known-refusal : tie.Need-enum-known-refusal
+enum-known-refusal c = search needs
 
-new-requires-2 : tie.Need-new-requires-2
-new-requires-2 c κs = tt
+refuse-requires-2 : tie.Need-refuse-requires-2
+refuse-requires-2 c κs = search needs
 
-refused-requires : tie.Need-refused-requires
-refused-requires c κs = tt
+enum-told : tie.Need-enum-told
+enum-told c = search needs
 
-finish-requires-2 : tie.Need-finish-requires-2
-finish-requires-2 c κs = tt
-
-enum-known-end : tie.Need-enum-known-end
-enum-known-end c = search needs
-
-slice-aggregate-finish : tie.Need-slice-aggregate-finish
-slice-aggregate-finish c = sym (length-take-le _ _ (framing-inside (now (c .before .before .before .before .before .before .before .before .before .before .before .before .before .before .args .section)) (λ i h. omega (arith, c .before .before .before .before .before .before .before .before .before .before .before .before .before .shared-slice-known .given i)) _ (framing-whole (now (c .before .before .before .before .before .before .before .before .before .before .before .before .before .before .args .section)) _ (c .before .before .before .before .before .before .framing-from .ensures) _ (c .before .before .before .before .end .given .1))))
-
-finish-requires-3 : tie.Need-finish-requires-3
-finish-requires-3 c κs = tt
+answer-requires : tie.Need-answer-requires
+answer-requires c κs = search needs
 
 same-length-2 : tie.Need-same-length-2
 same-length-2 c = search needs
 
 returns-2 : tie.Need-returns-2
-returns-2 c = promised (now (c .before .before .before .before .before .before .before .before .before .before .before .before .before .before .before .before .before .args .section)) (now (c .before .before .before .before .before .before .before .before .before .before .before .before .before .before .before .before .before .args .table)) _ (λ i h. omega (arith, c .before .before .before .before .before .before .before .before .before .before .before .before .before .before .before .before .shared-slice-known .given i)) (by-framing (now (c .before .before .before .before .before .before .before .before .before .before .before .before .before .before .before .before .before .args .section)) (now (c .before .before .before .before .before .before .before .before .before .before .before .before .before .before .before .before .before .args .table)) _ (c .before .before .before .before .before .before .before .before .before .before .before .before .before .before .if1 .left) _ (c .before .before .before .before .before .before .before .before .before .before .before .before .read-entries .ensures .kept) _ _ (framing-refused (now (c .before .before .before .before .before .before .before .before .before .before .before .before .before .before .before .before .before .args .section)) _ (c .before .before .before .before .before .before .before .before .before .framing-from .ensures) _ _ (c .before .before .before .before .before .before .before .number .given .1)) _ _ (c .before .before .before .before .before .new2 .ensures) (c .before .before .before .before .refused .ensures) (c .before .before .finish2 .ensures))
+returns-2 c =
+    let start = c .before .before .before .before .before .before .before .before .before .before .before .before .before .before .before in
+    let s = now (start .args .section) in
+    let table = now (start .args .table) in
+    let bytes = c .before .before .before .before .before .before .before .before .before .before .before .before .before .before .shared-slice-known in
+    let if1 = c .before .before .before .before .before .before .before .before .before .before .before .before .if1 in
+    let read-entries = c .before .before .before .before .before .before .before .before .before .before .read-entries in
+    let framing-from = c .before .before .before .before .before .before .before .framing-from in
+    let refusal = c .before .before .before .before .before .refusal in
+    promised s table _ (λ i h. omega (arith, bytes .given i))
+    (by-framing s table _ (if1 .left) (read-entries .last .1 .0) (read-entries .ensures .kept) _ _ (framing-refused s _ (framing-from .ensures) _ (refusal .given .1)) (c .before .before .refuse2 .ensures))
 
 same-length-3 : tie.Need-same-length-3
 same-length-3 c = search needs
 
 returns-3 : tie.Need-returns-3
 returns-3 c =
-    let e = framing-whole (now (c .before .before .before .before .before .before .before .before .before .before .before .before .before .before .before .before .before .before .args .section)) _ (c .before .before .before .before .before .before .before .before .before .before .framing-from .ensures) _ (c .before .before .before .before .before .before .before .before .end .given .1) in
-    promised (now (c .before .before .before .before .before .before .before .before .before .before .before .before .before .before .before .before .before .before .args .section)) (now (c .before .before .before .before .before .before .before .before .before .before .before .before .before .before .before .before .before .before .args .table)) _ (λ i h. omega (arith, c .before .before .before .before .before .before .before .before .before .before .before .before .before .before .before .before .before .shared-slice-known .given i)) (by-entries (now (c .before .before .before .before .before .before .before .before .before .before .before .before .before .before .before .before .before .before .args .section)) (now (c .before .before .before .before .before .before .before .before .before .before .before .before .before .before .before .before .before .before .args .table)) _ (c .before .before .before .before .before .before .before .before .before .before .before .before .before .before .before .if1 .left) _ _ (c .before .before .before .before .before .before .before .before .before .before .before .before .before .read-entries .ensures .reads _ e) (c .before .before .finish3 .ensures))
+    let start = c .before .before .before .before .before .before .before .before .before .before .before .before .before .before .before .before in
+    let s = now (start .args .section) in
+    let table = now (start .args .table) in
+    let bytes = c .before .before .before .before .before .before .before .before .before .before .before .before .before .before .before .shared-slice-known in
+    let if1 = c .before .before .before .before .before .before .before .before .before .before .before .before .before .if1 in
+    let read-entries = c .before .before .before .before .before .before .before .before .before .before .before .read-entries in
+    let framing-from = c .before .before .before .before .before .before .before .before .framing-from in
+    let enum-told = c .before .before .before .before .before .before .enum-told in
+    promised s table _ (λ i h. omega (arith, bytes .given i))
+    (by-entries s table _ (if1 .left) _ _ (read-entries .ensures .reads _ (framing-whole s _ (framing-from .ensures) _ (enum-told .given .1))) (c .before .before .answer .ensures))
 
 pub decode-entities-spec : {M : Type 1} → statement M
 decode-entities-spec =
     tie.close
     (tie.spec
-    new-requires
-    finish-requires
+    refuse-requires
     same-length
     returns
     read-entries-requires
     framing-from-requires
-    enum-known-number
-    new-requires-2
-    refused-requires
-    finish-requires-2
-    enum-known-end
-    slice-aggregate-finish
-    finish-requires-3
+    enum-known-refusal
+    refuse-requires-2
+    enum-told
+    answer-requires
     same-length-2
     returns-2
     same-length-3

@@ -1,6 +1,7 @@
 -- From boundary to boundary.
 use Rattle.section.proofs.Entries.{end-walked, none-here}
-use Rattle.section.specs.Private.{Walked, entryEnd}
+use Rattle.section.specs.Entry.{entryEnd}
+use Rattle.section.specs.Private.{Walked}
 use denote.Ref.{now}
 use lib.ListN.{length}
 use mathlib.Core.Path.{_≡_}
@@ -16,19 +17,23 @@ abbrev μ-loop : tie.MeasureT-loop
 μ-loop s from at₀ end₀ at end = length s - at
 
 entry-end-requires : tie.Need-entry-end-requires Inv-loop μ-loop
-entry-end-requires c κs = c .before .pre .inside
+entry-end-requires c κs = tt
 
 loop-holds : tie.Need-loop-holds Inv-loop μ-loop
 loop-holds c = (c .before .before .pre, c .entry-end .ensures)
 
 entry-end-requires-2 : tie.Need-entry-end-requires-2 Inv-loop μ-loop
-entry-end-requires-2 c κs = end-walked (now (c .before .before .before .before .args .s)) (λ i h. omega (arith, c .before .before .before .shared-slice-known .given i)) (c .before .loop .at) (c .before .loop .inv .0) (c .before .loop .end) (c .before .loop .inv .1) (c .loop-test .taken) .inside
+entry-end-requires-2 c κs = tt
 
 loop-less : tie.Need-loop-less Inv-loop μ-loop
-loop-less c = omega (arith, c .before .loop-test .taken, end-walked (now (c .before .before .before .before .before .args .s)) (λ i h. omega (arith, c .before .before .before .before .shared-slice-known .given i)) (c .before .before .loop .at) (c .before .before .loop .inv .0) (c .before .before .loop .end) (c .before .before .loop .inv .1) (c .before .loop-test .taken) .inside)
+loop-less c =
+    let args = c .before .before .before .before .before .args in
+    omega (arith, c .before .loop-test .taken, end-walked (now (args .s)) (λ i h. omega (arith, c .before .before .before .before .shared-slice-known .given i)) (c .before .before .loop .at) (c .before .before .loop .inv .0) (c .before .before .loop .end) (c .before .before .loop .inv .1) (c .before .loop-test .taken) .inside)
 
 loop-again : tie.Need-loop-again Inv-loop μ-loop
-loop-again c = (end-walked (now (c .before .before .before .before .before .args .s)) (λ i h. omega (arith, c .before .before .before .before .shared-slice-known .given i)) (c .before .before .loop .at) (c .before .before .loop .inv .0) (c .before .before .loop .end) (c .before .before .loop .inv .1) (c .before .loop-test .taken), c .entry-end2 .ensures)
+loop-again c =
+    let args = c .before .before .before .before .before .args in
+    (end-walked (now (args .s)) (λ i h. omega (arith, c .before .before .before .before .shared-slice-known .given i)) (c .before .before .loop .at) (c .before .before .loop .inv .0) (c .before .before .loop .end) (c .before .before .loop .inv .1) (c .before .loop-test .taken), c .entry-end2 .ensures)
 
 framing-at-requires : tie.Need-framing-at-requires Inv-loop μ-loop
 framing-at-requires c κs = (c .before .loop .inv .0, none-here (now (c .before .before .before .before .args .s)) (c .before .loop .at) (omega (arith, c .loop-test .left, c .before .loop .inv .1)))

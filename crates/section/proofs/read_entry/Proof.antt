@@ -1,71 +1,67 @@
--- The sentinel, or an entity.
-use Rattle.section.proofs.Entries.{entry-sentinel, entry-entity}
-use Rattle.section.specs.Private.{staged}
-use denote.Ref.{now}
-use lib.Seq.{length-take-le}
-use mathlib.Core.Path.{sym}
+-- The tests that come first, or one entry.
+use Rattle.section.proofs.Next.{entry-refused, entry-too-long, entry-too-many, entry-none, entry-some}
+use Rattle.section.proofs.Entries.{whole-here}
+use Rattle.section.specs.Entry.{staged}
 use native.Mathlib.Omega.{arith}
+use mathlib.Core.Path.{sym, _∙_}
+use denote.Ref.{now}
 use borrow.Author.Needs.{needs}
 use Rattle.section.proofs.read_entry.Statement.{statement}
 use Rattle.section.proofs.read_entry.Tie as tie
 
-add-begin : tie.Need-add-begin
-add-begin c = search needs
-
-length-at-requires : tie.Need-length-at-requires
-length-at-requires c κs = tt
-
-cast-end : tie.Need-cast-end
-cast-end c = search needs
-
-add-end : tie.Need-add-end
-add-end c = search needs
-
-is-sentinel-requires : tie.Need-is-sentinel-requires
-is-sentinel-requires c κs = search needs
-
-seek-requires : tie.Need-seek-requires
-seek-requires c κs = tt
-
 returns : tie.Need-returns
-returns c = entry-sentinel (now (c .before .before .before .before .before .before .before .before .args .s)) (staged (c .before .before .before .before .before .before .before .before .args .p) (now (c .before .before .before .before .before .before .before .before .args .t))) _ (c .before .before .before .length-at .ensures) _ (c .before .before .is-sentinel .ensures) (c .before .if1 .taken) _ (c .seek .ensures)
+returns c =
+    let args = c .before .before .before .before .before .args in
+    sym (entry-refused (now (args .s)) (staged (args .p) (now (args .t))) (c .if1 .taken))
 
-seek-requires-2 : tie.Need-seek-requires-2
-seek-requires-2 c κs = tt
+returns-2 : tie.Need-returns-2
+returns-2 c =
+    let args = c .before .before .before .before .before .before .args in
+    sym (entry-too-long (now (args .s)) (staged (args .p) (now (args .t))) (c .before .if1 .left) (c .if2 .taken))
 
-slice-aggregate-read-entity : tie.Need-slice-aggregate-read-entity
-slice-aggregate-read-entity c = sym (length-take-le _ _ (omega (arith, c .before .before .before .before .length-at .ensures, c .before .before .before .before .before .before .before .before .before .pre .0)))
+returns-3 : tie.Need-returns-3
+returns-3 c =
+    let args = c .before .before .before .before .before .before .before .before .args in
+    sym (entry-too-many (now (args .s)) (staged (args .p) (now (args .t))) (c .before .before .before .if1 .left) (c .before .before .if2 .left) (c .if3 .taken))
 
-read-entity-requires : tie.Need-read-entity-requires
-read-entity-requires c κs = tt
+entry-end-requires : tie.Need-entry-end-requires
+entry-end-requires c κs = search needs
 
-close-requires : tie.Need-close-requires
-close-requires c κs = tt
+returns-4 : tie.Need-returns-4
+returns-4 c =
+    let args = c .before .before .before .before .before .before .before .before .before .before .before .args in
+    let if1 = c .before .before .before .before .before .before .if1 in
+    let if2 = c .before .before .before .before .before .if2 in
+    sym (entry-none (now (args .s)) (staged (args .p) (now (args .t))) (if1 .left) (if2 .left) (c .before .before .before .if3 .left) (omega (arith, c .if4 .taken, c .before .before .entry-end .ensures)))
 
-add-t10 : tie.Need-add-t10
-add-t10 c = omega (arith, c .before .before .before .before .before .before .before .before .before .before .before .before .before .before .pre .1 .1 .0)
+read-whole-entry-requires : tie.Need-read-whole-entry-requires
+read-whole-entry-requires c κs =
+    let args = c .before .before .before .before .before .before .before .before .before .before .before .before .args in
+    let bytes = c .before .before .before .before .before .before .before .before .before .before .before .shared-slice-known .given in
+    let if2 = c .before .before .before .before .before .before .if2 in
+    (whole-here (now (args .s)) (args .p .cursor .at) (omega (arith, c .before .if4 .left, c .before .before .before .entry-end .ensures)) .2, (if2 .left, (c .before .before .before .before .if3 .left, (λ i h. omega (arith, bytes i)))))
 
 same-length : tie.Need-same-length
 same-length c = search needs
 
-returns-2 : tie.Need-returns-2
-returns-2 c = entry-entity (now (c .before .before .before .before .before .before .before .before .before .before .before .before .before .before .args .s)) (staged (c .before .before .before .before .before .before .before .before .before .before .before .before .before .before .args .p) (now (c .before .before .before .before .before .before .before .before .before .before .before .before .before .before .args .t))) _ (c .before .before .before .before .before .before .before .before .before .length-at .ensures) _ (c .before .before .before .before .before .before .before .before .is-sentinel .ensures) (c .before .before .before .before .before .before .before .if1 .left) _ (c .before .before .before .before .before .before .seek2 .ensures) _ (c .before .before .before .read-entity .ensures) _ (c .close .ensures)
+returns-5 : tie.Need-returns-5
+returns-5 c =
+    let args = c .before .before .before .before .before .before .before .before .before .before .before .before .before .before .before .args in
+    let if1 = c .before .before .before .before .before .before .before .before .before .before .if1 in
+    let if2 = c .before .before .before .before .before .before .before .before .before .if2 in
+    let if3 = c .before .before .before .before .before .before .before .if3 in
+    let end = c .before .before .before .before .before .before .entry-end .ensures in
+    c .before .before .read-whole-entry .ensures ∙ sym (entry-some (now (args .s)) (staged (args .p) (now (args .t))) (if1 .left) (if2 .left) (if3 .left) (omega (arith, c .before .before .before .before .if4 .left)))
 
 pub read-entry-spec : {M : Type 1} → statement M
 read-entry-spec =
     tie.close
     (tie.spec
-    add-begin
-    length-at-requires
-    cast-end
-    add-end
-    is-sentinel-requires
-    seek-requires
     returns
-    seek-requires-2
-    slice-aggregate-read-entity
-    read-entity-requires
-    close-requires
-    add-t10
+    returns-2
+    returns-3
+    entry-end-requires
+    returns-4
+    read-whole-entry-requires
     same-length
-    returns-2)
+    returns-5)

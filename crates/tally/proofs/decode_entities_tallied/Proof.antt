@@ -17,8 +17,9 @@ same-length c = search needs
 
 returns : tie.Need-returns
 returns c =
+    let args = c .before .before .before .before .before .before .before .args in
     let e = c .before .before .before .decode-entities .ensures in
-    (e .0, (e .1, c .count .ensures ∙ ap (λ (x : Result). tallied (c .before .before .before .before .before .before .before .args .tally) (x .answer)) (e .0)))
+    (e .0, (e .1, c .count .ensures ∙ ap (λ (x : Result). tallied (args .tally) (x .answer)) (e .0)))
 
 pub decode-entities-tallied-spec : {M : Type 1} → statement M
 decode-entities-tallied-spec =

@@ -44,8 +44,9 @@ loop-less c = search needs
 
 loop-again : tie.Need-loop-again Inv-loop μ-loop
 loop-again c =
+    let args = c .before .before .before .before .before .before .args in
     let i = c .before .before .before .loop .i in
-    (search needs, ascii-join (c .before .before .before .before .before .before .args .s .now) 0 i i (i + 64) (omega arith) (c .before .before .before .loop .inv .1) (c .before .is-ascii .ensures (not-false _ (c .if3 .left))))
+    (search needs, ascii-join (args .s .now) 0 i i (i + 64) (omega arith) (c .before .before .before .loop .inv .1) (c .before .is-ascii .ensures (not-false _ (c .if3 .left))))
 
 is-ascii-requires-2 : tie.Need-is-ascii-requires-2 Inv-loop μ-loop
 is-ascii-requires-2 c κs = search needs

@@ -26,15 +26,18 @@ returns c =
     both s (ascii-utf8 s (rw (take-length s, c .if1 .taken) at (c .before .ascii-prefix .ensures .1)))
 
 slice-aggregate-walk-from : tie.Need-slice-aggregate-walk-from
-slice-aggregate-walk-from c = sym (length-whole (c .before .before .before .before .before .args .s .now))
+slice-aggregate-walk-from c =
+    let args = c .before .before .before .before .before .args in
+    sym (length-whole (args .s .now))
 
 walk-from-requires : tie.Need-walk-from-requires
 walk-from-requires c κs = search needs
 
 returns-2 : tie.Need-returns-2
 returns-2 c =
+    let args = c .before .before .before .before .before .before .args in
     let a = c .before .before .before .ascii-prefix .ensures in
-    both (c .before .before .before .before .before .before .args .s .now) (answered _ _ _ (a .0) (a .1) (c .walk-from .ensures) ∙ ap utf8 (take-length (c .before .before .before .before .before .before .args .s .now)))
+    both (args .s .now) (answered _ _ _ (a .0) (a .1) (c .walk-from .ensures) ∙ ap utf8 (take-length (args .s .now)))
 
 pub is-utf8-spec : {M : Type 1} → statement M
 is-utf8-spec =

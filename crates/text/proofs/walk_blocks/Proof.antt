@@ -41,8 +41,9 @@ loop-less-2 c = search needs
 
 loop-again-2 : tie.Need-loop-again-2 Inv-loop μ-loop
 loop-again-2 c =
+    let args = c .before .before .before .before .before .before .args in
     let i = c .before .before .before .before .loop .i in
-    (search needs, λ p e. passed (c .before .before .before .before .before .before .args .s .now) i (i + 64) (c .before .before .before .before .loop .x) (omega arith) (omega arith) (c .before .before .if1 .left) (c .before .is-ascii .ensures (not-false _ (c .if2 .left))) p (c .before .before .before .before .loop .inv .1 p e))
+    (search needs, λ p e. passed (args .s .now) i (i + 64) (c .before .before .before .before .loop .x) (omega arith) (omega arith) (c .before .before .if1 .left) (c .before .is-ascii .ensures (not-false _ (c .if2 .left))) p (c .before .before .before .before .loop .inv .1 p e))
 
 walk-bytes-requires-2 : tie.Need-walk-bytes-requires-2 Inv-loop μ-loop
 walk-bytes-requires-2 c κs = (c .before .before .before .pre .0, search needs)

@@ -12,11 +12,15 @@ read-used-types-requires : tie.Need-read-used-types-requires
 read-used-types-requires c κs = tt
 
 same-length : tie.Need-same-length
-same-length c = c .before .before .read-used-types .kept .1 .1 .0 ∙ c .before .before .before .before .before .before .read-count .kept .1 .1 .0
+same-length c =
+    let read-count = c .before .before .before .before .before .before .read-count in
+    c .before .before .read-used-types .kept .1 .1 .0 ∙ read-count .kept .1 .1 .0
 
 returns : tie.Need-returns
 unfolding AggregateType AggregateTypeList
-returns c = list-in AggregateType _ _ _ _ (c .before .before .before .before .before .before .read-count .ensures) (c .before .before .read-used-types .ensures)
+returns c =
+    let read-count = c .before .before .before .before .before .before .read-count in
+    list-in AggregateType _ _ _ _ (read-count .ensures) (c .before .before .read-used-types .ensures)
 
 pub read-aggregate-type-list-spec : {M : Type 1} → statement M
 read-aggregate-type-list-spec =

@@ -7,7 +7,7 @@ use lib.ListN.{length}
 use lib.Seq.{length-take-le, take-length}
 use borrow.Author.Needs.{needs}
 use Rattle.layout.proofs.Forms.{loop-on, loop-end}
-use Rattle.leaf.proofs.Handing.{anew-in}
+use Rattle.leaf.proofs.Handing.{copy-in}
 use Rattle.leaf.proofs.Still.{loop-refused}
 use Rattle.leaf.specs.Run.{run}
 use Rattle.leaf.specs.State.{readState}
@@ -24,8 +24,8 @@ Inv-loop s t₀ name count n c₀ i₀ t c i = (length t ≡ length t₀) × (ru
 abbrev μ-loop : tie.MeasureT-loop
 μ-loop s t₀ name count n c₀ i₀ t c i = count - i
 
-anew-requires : tie.Need-anew-requires Inv-loop μ-loop
-anew-requires c κs = tt
+copy-requires : tie.Need-copy-requires Inv-loop μ-loop
+copy-requires c κs = tt
 
 loop-holds : tie.Need-loop-holds Inv-loop μ-loop
 loop-holds c = (refl, simp sub-zero)
@@ -34,7 +34,7 @@ same-length : tie.Need-same-length Inv-loop μ-loop
 same-length c = c .before .before .before .loop .inv .0
 
 returns : tie.Need-returns Inv-loop μ-loop
-returns c = anew-in _ _ _ _ _ _ (c .before .before .before .before .anew .ensures) (loop-refused _ _ _ _ (c .before .before .before .loop .inv .1) (c .if1 .taken))
+returns c = copy-in _ _ _ _ _ _ (c .before .before .before .before .copy .ensures) (loop-refused _ _ _ _ (c .before .before .before .loop .inv .1) (c .if1 .taken))
 
 slice-aggregate-one-used-type : tie.Need-slice-aggregate-one-used-type Inv-loop μ-loop
 slice-aggregate-one-used-type c = sym (length-take-le _ _ (omega arith))
@@ -50,13 +50,18 @@ loop-less c = omega arith
 
 loop-again : tie.Need-loop-again Inv-loop μ-loop
 loop-again c =
-    (search (needs, c .before .before .before .before .before .before .before .before .loop .inv .0), loop-on _ _ (named (c .before .before .before .before .before .before .before .before .before .before .before .before .args .name) then UsedType) _ _ _ _ (c .before .before .before .before .before .before .before .before .loop .inv .1) (c .before .before .before .before .before .before .before .loop-test .taken) (rw take-length at (c .before .before .one-used-type .ensures)))
+    let args = c .before .before .before .before .before .before .before .before .before .before .before .before .args in
+    let loop = c .before .before .before .before .before .before .before .before .loop in
+    let loop-test = c .before .before .before .before .before .before .before .loop-test in
+    (search (needs, loop .inv .0), loop-on _ _ (named (args .name) then UsedType) _ _ _ _ (loop .inv .1) (loop-test .taken) (rw take-length at (c .before .before .one-used-type .ensures)))
 
 same-length-2 : tie.Need-same-length-2 Inv-loop μ-loop
 same-length-2 c = c .before .loop .inv .0
 
 returns-2 : tie.Need-returns-2 Inv-loop μ-loop
-returns-2 c = anew-in _ _ _ _ _ _ (c .before .before .anew .ensures) (loop-end _ _ (named (c .before .before .before .before .before .args .name) then UsedType) _ _ _ (c .before .loop .inv .1) (c .loop-test .left))
+returns-2 c =
+    let args = c .before .before .before .before .before .args in
+    copy-in _ _ _ _ _ _ (c .before .before .copy .ensures) (loop-end _ _ (named (args .name) then UsedType) _ _ _ (c .before .loop .inv .1) (c .loop-test .left))
 
 pub read-used-types-spec : {M : Type 1} → statement M
 read-used-types-spec =
@@ -64,7 +69,7 @@ read-used-types-spec =
     (tie.spec
     Inv-loop
     μ-loop
-    anew-requires
+    copy-requires
     loop-holds
     same-length
     returns

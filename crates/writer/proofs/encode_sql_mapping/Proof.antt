@@ -33,8 +33,10 @@ same-length c = search needs
 
 returns-2 : tie.Need-returns-2
 returns-2 c =
+    let sql-mapping-len = c .before .before .before .before .before .before .before .sql-mapping-len in
+    let fitting = c .before .before .before .before .before .before .fitting in
     let a = c .before .before .before .before .before .before .before .before .before .before .before .args in
-    second-pass SqlMapping (now (a .rows)) (now (a .text)) (now (a .dest)) _ _ (c .before .before .before .before .before .before .before .sql-mapping-len .ensures .0) (c .before .before .before .before .before .before .fitting .ensures) _ (ap lengthOf (c .before .before .before .before .enum-told .given .1)) _ (c .before .before .store .ensures)
+    second-pass SqlMapping (now (a .rows)) (now (a .text)) (now (a .dest)) _ _ (sql-mapping-len .ensures .0) (fitting .ensures) _ (ap lengthOf (c .before .before .before .before .enum-told .given .1)) _ (c .before .before .store .ensures)
 
 pub encode-sql-mapping-spec : {M : Type 1} → statement M
 encode-sql-mapping-spec =

@@ -1,12 +1,13 @@
 -- Refused, no such row, a text that leaves the lent bytes, a bad one, or a good one.
-use native.Mathlib.Omega.{arith}
-use lib.ListN.{length}
-use borrow.Author.Needs.{needs}
-use denote.Ref.{now}
-use Rattle.layout.specs.Machine.{drive}
-use Rattle.entry_writer.specs.State.{consumeText}
-use Rattle.entry_writer.proofs.Steps.{row-there, refused-stays, text-none, text-outside, text-bad, text-good}
 use Rattle.entry_writer.proofs.Row.{stays-within}
+use Rattle.entry_writer.proofs.Steps.{row-inside, refused-stays, text-none, text-outside, text-bad, text-good}
+use Rattle.entry_writer.specs.State.{consumeText}
+use Rattle.table.proofs.Rows.{offset-there, value-there}
+use Rattle.layout.specs.Machine.{drive}
+use denote.Ref.{now}
+use lib.ListN.{length}
+use native.Mathlib.Omega.{arith}
+use borrow.Author.Needs.{needs}
 use Rattle.entry_writer.proofs.EntryWriter.str.Statement.{statement}
 use Rattle.entry_writer.proofs.EntryWriter.str.Tie as tie
 
@@ -23,17 +24,14 @@ stop-requires c κs = search needs
 returns-2 : tie.Need-returns-2
 unfolding drive consumeText
 returns-2 c =
-    let a = c .before .before .before .before .before .before .before .args in
-    text-none (now (a .rows)) (a .self) (c .before .before .before .if1 .left) _ _ (now (a .text)) (c .before .before .is-row .ensures) (c .before .if2 .taken) (c .stop .ensures)
+    let args = c .before .before .before .before .before .before .before .args in
+    text-none (now (args .rows)) (args .self) (c .before .before .before .if1 .left) _ _ (now (args .text)) (c .before .before .is-row .ensures) (c .before .if2 .taken) (c .stop .ensures)
 
-offset-at-requires : tie.Need-offset-at-requires
-offset-at-requires c κs = let a = c .before .before .before .before .before .before .args in row-there (now (a .rows)) (a .self .row) 6 _ (c .before .is-row .ensures) (c .if2 .left)
+row-at-requires : tie.Need-row-at-requires
+row-at-requires c κs = search needs
 
 cast-start : tie.Need-cast-start
 cast-start c = search needs
-
-value-at-requires : tie.Need-value-at-requires
-value-at-requires c κs = let a = c .before .before .before .before .before .before .before .args in row-there (now (a .rows)) (a .self .row) 6 _ (c .before .before .is-row .ensures) (c .before .if2 .left)
 
 cast-size : tie.Need-cast-size
 cast-size c = search needs
@@ -42,13 +40,24 @@ stays-requires : tie.Need-stays-requires
 stays-requires c κs = search needs
 
 spoiled-requires : tie.Need-spoiled-requires
-spoiled-requires c κs = let a = c .before .before .before .before .before .before .before .before .before .before .args in omega (arith, row-there (now (a .rows)) (a .self .row) 6 _ (c .before .before .before .before .before .is-row .ensures) (c .before .before .before .before .if2 .left))
+spoiled-requires c κs =
+    let args = c .before .before .before .before .before .before .before .before .before .before .before .args in
+    let is-row = c .before .before .before .before .before .before .is-row in
+    let if2 = c .before .before .before .before .before .if2 in
+    omega (arith, row-inside (now (args .rows)) (args .self .row) 6 _ (is-row .ensures) (if2 .left))
 
 returns-3 : tie.Need-returns-3
 unfolding drive consumeText
 returns-3 c =
-    let a = c .before .before .before .before .before .before .before .before .before .before .before .args in
-    text-outside (now (a .rows)) (now (a .text)) (a .self) (c .before .before .before .before .before .before .before .if1 .left) _ (c .before .before .before .before .before .before .is-row .ensures) (c .before .before .before .before .before .if2 .left) _ _ (c .before .before .before .before .offset-at .ensures) (c .before .before .before .value-at .ensures) _ (c .before .before .stays .ensures) (c .before .if3 .taken) _ (c .spoiled .ensures)
+    let args = c .before .before .before .before .before .before .before .before .before .before .before .before .args in
+    let is-row = c .before .before .before .before .before .before .before .is-row in
+    let if2 = c .before .before .before .before .before .before .if2 in
+    let here = row-inside (now (args .rows)) (args .self .row) 6 _ (is-row .ensures) (if2 .left) in
+    let row-at = c .before .before .before .before .before .row-at in
+    let start = offset-there (now (args .rows)) (args .self .row) here (row-at .ensures) in
+    let size = value-there (now (args .rows)) (args .self .row) here (row-at .ensures) in
+    let if1 = c .before .before .before .before .before .before .before .before .if1 in
+    text-outside (now (args .rows)) (now (args .text)) (args .self) (if1 .left) _ (is-row .ensures) (if2 .left) _ _ start size _ (c .before .before .stays .ensures) (c .before .if3 .taken) _ (c .spoiled .ensures)
 
 add-end : tie.Need-add-end
 add-end c = search needs
@@ -60,31 +69,57 @@ part-is-utf8-start : tie.Need-part-is-utf8-start
 part-is-utf8-start c = search needs
 
 part-is-utf8-end : tie.Need-part-is-utf8-end
-part-is-utf8-end c = let a = c .before .before .before .before .before .before .before .before .before .before .args in stays-within _ _ (length (now (a .text))) (c .before .stays .ensures) (c .if3 .left)
+part-is-utf8-end c =
+    let args = c .before .before .before .before .before .before .before .before .before .before .before .args in
+    stays-within _ _ (length (now (args .text))) (c .before .stays .ensures) (c .if3 .left)
 
 is-utf8-requires : tie.Need-is-utf8-requires
 is-utf8-requires c κs = search needs
 
 spoiled-requires-2 : tie.Need-spoiled-requires-2
-spoiled-requires-2 c κs = let a = c .before .before .before .before .before .before .before .before .before .before .before .before .before .args in omega (arith, row-there (now (a .rows)) (a .self .row) 6 _ (c .before .before .before .before .before .before .before .before .is-row .ensures) (c .before .before .before .before .before .before .before .if2 .left))
+spoiled-requires-2 c κs =
+    let args = c .before .before .before .before .before .before .before .before .before .before .before .before .before .before .args in
+    let is-row = c .before .before .before .before .before .before .before .before .before .is-row in
+    let if2 = c .before .before .before .before .before .before .before .before .if2 in
+    omega (arith, row-inside (now (args .rows)) (args .self .row) 6 _ (is-row .ensures) (if2 .left))
 
 returns-4 : tie.Need-returns-4
 unfolding drive consumeText
 returns-4 c =
-    let a = c .before .before .before .before .before .before .before .before .before .before .before .before .before .before .args in
-    text-bad (now (a .rows)) (now (a .text)) (a .self) (c .before .before .before .before .before .before .before .before .before .before .if1 .left) _ (c .before .before .before .before .before .before .before .before .before .is-row .ensures) (c .before .before .before .before .before .before .before .before .if2 .left) _ _ (c .before .before .before .before .before .before .before .offset-at .ensures) (c .before .before .before .before .before .before .value-at .ensures) _ (c .before .before .before .before .before .stays .ensures) (c .before .before .before .before .if3 .left) _ (c .before .before .is-utf8 .ensures .0) _ (c .before .if4 .taken) (c .spoiled2 .ensures)
+    let args = c .before .before .before .before .before .before .before .before .before .before .before .before .before .before .before .args in
+    let is-row = c .before .before .before .before .before .before .before .before .before .before .is-row in
+    let if2 = c .before .before .before .before .before .before .before .before .before .if2 in
+    let here = row-inside (now (args .rows)) (args .self .row) 6 _ (is-row .ensures) (if2 .left) in
+    let row-at = c .before .before .before .before .before .before .before .before .row-at in
+    let start = offset-there (now (args .rows)) (args .self .row) here (row-at .ensures) in
+    let size = value-there (now (args .rows)) (args .self .row) here (row-at .ensures) in
+    let if1 = c .before .before .before .before .before .before .before .before .before .before .before .if1 in
+    let stays = c .before .before .before .before .before .stays in
+    text-bad (now (args .rows)) (now (args .text)) (args .self) (if1 .left) _ (is-row .ensures) (if2 .left) _ _ start size _ (stays .ensures) (c .before .before .before .before .if3 .left) _ (c .before .before .is-utf8 .ensures .0) _ (c .before .if4 .taken) (c .spoiled2 .ensures)
 
 add-past : tie.Need-add-past
 add-past c = search needs
 
 past-requires : tie.Need-past-requires
-past-requires c κs = let a = c .before .before .before .before .before .before .before .before .before .before .before .before .before .args in omega (arith, row-there (now (a .rows)) (a .self .row) 6 _ (c .before .before .before .before .before .before .before .before .is-row .ensures) (c .before .before .before .before .before .before .before .if2 .left))
+past-requires c κs =
+    let args = c .before .before .before .before .before .before .before .before .before .before .before .before .before .before .args in
+    let is-row = c .before .before .before .before .before .before .before .before .before .is-row in
+    let if2 = c .before .before .before .before .before .before .before .before .if2 in
+    omega (arith, row-inside (now (args .rows)) (args .self .row) 6 _ (is-row .ensures) (if2 .left))
 
 returns-5 : tie.Need-returns-5
 unfolding drive consumeText
 returns-5 c =
-    let a = c .before .before .before .before .before .before .before .before .before .before .before .before .before .before .args in
-    text-good (now (a .rows)) (now (a .text)) (a .self) (c .before .before .before .before .before .before .before .before .before .before .if1 .left) _ (c .before .before .before .before .before .before .before .before .before .is-row .ensures) (c .before .before .before .before .before .before .before .before .if2 .left) _ _ (c .before .before .before .before .before .before .before .offset-at .ensures) (c .before .before .before .before .before .before .value-at .ensures) _ (c .before .before .before .before .before .stays .ensures) (c .before .before .before .before .if3 .left) _ (c .before .before .is-utf8 .ensures .0) _ (c .before .if4 .left) (c .past .ensures)
+    let args = c .before .before .before .before .before .before .before .before .before .before .before .before .before .before .before .args in
+    let is-row = c .before .before .before .before .before .before .before .before .before .before .is-row in
+    let if2 = c .before .before .before .before .before .before .before .before .before .if2 in
+    let here = row-inside (now (args .rows)) (args .self .row) 6 _ (is-row .ensures) (if2 .left) in
+    let row-at = c .before .before .before .before .before .before .before .before .row-at in
+    let start = offset-there (now (args .rows)) (args .self .row) here (row-at .ensures) in
+    let size = value-there (now (args .rows)) (args .self .row) here (row-at .ensures) in
+    let if1 = c .before .before .before .before .before .before .before .before .before .before .before .if1 in
+    let stays = c .before .before .before .before .before .stays in
+    text-good (now (args .rows)) (now (args .text)) (args .self) (if1 .left) _ (is-row .ensures) (if2 .left) _ _ start size _ (stays .ensures) (c .before .before .before .before .if3 .left) _ (c .before .before .is-utf8 .ensures .0) _ (c .before .if4 .left) (c .past .ensures)
 
 pub str-spec : {M : Type 1} → statement M
 str-spec =
@@ -94,9 +129,8 @@ str-spec =
     is-row-requires
     stop-requires
     returns-2
-    offset-at-requires
+    row-at-requires
     cast-start
-    value-at-requires
     cast-size
     stays-requires
     spoiled-requires

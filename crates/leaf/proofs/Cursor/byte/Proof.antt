@@ -22,7 +22,9 @@ stop-requires-2 : tie.Need-stop-requires-2
 stop-requires-2 c κs = search needs
 
 returns-3 : tie.Need-returns-3
-returns-3 c = goes-on _ _ _ _ (c .before .before .before .if1 .left) (c .before .before .if2 .left) _ (simp (lt-leb (c .before .before .before .before .before .before .before .args .self .at + 1) (length (now (c .before .before .before .before .before .before .before .args .s))) (omega arith), c .stop2 .ensures))
+returns-3 c =
+    let args = c .before .before .before .before .before .before .before .args in
+    goes-on _ _ _ _ (c .before .before .before .if1 .left) (c .before .before .if2 .left) _ (simp (lt-leb (args .self .at + 1) (length (now (args .s))) (omega arith), c .stop2 .ensures))
 
 shared-slice-read-wide : tie.Need-shared-slice-read-wide
 shared-slice-read-wide c = search needs
@@ -43,7 +45,11 @@ same-length : tie.Need-same-length
 same-length c = search needs
 
 returns-4 : tie.Need-returns-4
-returns-4 c = goes-on _ _ _ _ (c .before .before .before .before .before .before .before .before .if1 .left) (c .before .before .before .before .before .before .before .if2 .left) _ (simp (le-leb (c .before .before .before .before .before .before .before .before .before .before .before .before .args .self .at + 1) (length (now (c .before .before .before .before .before .before .before .before .before .before .before .before .args .s))) (omega arith), ← c .before .before .before .before .wide .ensures .0) (c .before .before .store .ensures))
+returns-4 c =
+    let args = c .before .before .before .before .before .before .before .before .before .before .before .before .args in
+    let if1 = c .before .before .before .before .before .before .before .before .if1 in
+    let if2 = c .before .before .before .before .before .before .before .if2 in
+    goes-on _ _ _ _ (if1 .left) (if2 .left) _ (simp (le-leb (args .self .at + 1) (length (now (args .s))) (omega arith), ← c .before .before .before .before .wide .ensures .0) (c .before .before .store .ensures))
 
 pub byte-spec : {M : Type 1} → statement M
 byte-spec =

@@ -27,7 +27,9 @@ stop-requires-2 c κs = search needs
 
 returns-3 : tie.Need-returns-3
 unfolding drive readPlain
-returns-3 c = goes-on _ _ _ _ (c .before .before .before .if1 .left) (c .before .before .if2 .left) _ (simp (lt-leb (c .before .before .before .before .before .before .before .args .self .at + 1) (length (now (c .before .before .before .before .before .before .before .args .s))) (omega arith), c .stop2 .ensures))
+returns-3 c =
+    let args = c .before .before .before .before .before .before .before .args in
+    goes-on _ _ _ _ (c .before .before .before .if1 .left) (c .before .before .if2 .left) _ (simp (lt-leb (args .self .at + 1) (length (now (args .s))) (omega arith), c .stop2 .ensures))
 
 shared-slice-read-wide : tie.Need-shared-slice-read-wide
 shared-slice-read-wide c = search needs
@@ -40,7 +42,11 @@ stop-requires-3 c κs = search needs
 
 returns-4 : tie.Need-returns-4
 unfolding drive readPlain
-returns-4 c = goes-on _ _ _ _ (c .before .before .before .before .before .before .if1 .left) (c .before .before .before .before .before .if2 .left) _ (simp (le-leb (c .before .before .before .before .before .before .before .before .before .before .args .self .at + 1) (length (now (c .before .before .before .before .before .before .before .before .before .before .args .s))) (omega arith), le-ltb _ 2 (rw (c .before .before .wide .ensures .0) at (c .before .if4 .taken)), c .stop3 .ensures))
+returns-4 c =
+    let args = c .before .before .before .before .before .before .before .before .before .before .args in
+    let if1 = c .before .before .before .before .before .before .if1 in
+    let if2 = c .before .before .before .before .before .if2 in
+    goes-on _ _ _ _ (if1 .left) (if2 .left) _ (simp (le-leb (args .self .at + 1) (length (now (args .s))) (omega arith), le-ltb _ 2 (rw (c .before .before .wide .ensures .0) at (c .before .if4 .taken)), c .stop3 .ensures))
 
 cast-store : tie.Need-cast-store
 cast-store c = search needs
@@ -56,7 +62,12 @@ same-length c = search needs
 
 returns-5 : tie.Need-returns-5
 unfolding drive readPlain
-returns-5 c = goes-on _ _ _ _ (c .before .before .before .before .before .before .before .before .before .if1 .left) (c .before .before .before .before .before .before .before .before .if2 .left) _ (simp (le-leb (c .before .before .before .before .before .before .before .before .before .before .before .before .before .args .self .at + 1) (length (now (c .before .before .before .before .before .before .before .before .before .before .before .before .before .args .s))) (omega arith), ← c .before .before .before .before .before .wide .ensures .0, lt-ltb _ 2 (c .before .before .before .before .if4 .left)) (c .before .before .store .ensures))
+returns-5 c =
+    let args = c .before .before .before .before .before .before .before .before .before .before .before .before .before .args in
+    let if1 = c .before .before .before .before .before .before .before .before .before .if1 in
+    let if2 = c .before .before .before .before .before .before .before .before .if2 in
+    let wide-ensures = c .before .before .before .before .before .wide .ensures in
+    goes-on _ _ _ _ (if1 .left) (if2 .left) _ (simp (le-leb (args .self .at + 1) (length (now (args .s))) (omega arith), ← wide-ensures .0, lt-ltb _ 2 (c .before .before .before .before .if4 .left)) (c .before .before .store .ensures))
 
 pub read-bool-spec : {M : Type 1} → statement M
 read-bool-spec =

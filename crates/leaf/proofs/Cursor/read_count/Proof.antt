@@ -1,6 +1,6 @@
 -- The number that was read is a leaf of its sort.
 use borrow.Author.Needs.{needs}
-use Rattle.leaf.proofs.Leaves.{land-plain}
+use Rattle.leaf.proofs.Leaves.{number-arrives}
 use Rattle.leaf.specs.State.{readPlain}
 use Rattle.layout.specs.Machine.{drive}
 use Rattle.layout.specs.Layout.{Count}
@@ -15,7 +15,7 @@ same-length c = search needs
 
 returns : tie.Need-returns
 unfolding drive readPlain
-returns c = rw (← land-plain Count) (c .before .before .four .ensures)
+returns c = rw (← number-arrives Count) (c .before .before .four .ensures)
 
 pub read-count-spec : {M : Type 1} → statement M
 read-count-spec = tie.close (tie.spec four-requires same-length returns)

@@ -16,7 +16,9 @@ same-length c = search needs
 
 returns : tie.Need-returns
 unfolding OptionU32
-returns c = may-in _ _ _ _ _ (c .before .before .before .before .before .before .before .before .read-bool .ensures) (c .before .before .before .before .if1 .taken) (c .before .before .read-u32 .ensures)
+returns c =
+    let read-bool = c .before .before .before .before .before .before .before .before .read-bool in
+    may-in _ _ _ _ _ (read-bool .ensures) (c .before .before .before .before .if1 .taken) (c .before .before .read-u32 .ensures)
 
 same-length-2 : tie.Need-same-length-2
 same-length-2 c = search needs

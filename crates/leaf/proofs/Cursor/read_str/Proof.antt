@@ -6,6 +6,7 @@ use lib.ListN.{length}
 use borrow.Author.Needs.{needs}
 use borrow.Author.Tests.{lt-leb}
 use denote.Ref.{now}
+use Rattle.bytes.proofs.Number.{number-there}
 use Rattle.leaf.proofs.Leaves.{refused-stays, long-stops, goes-on, text-long, text-wrong, text-right}
 use Rattle.leaf.specs.State.{readState, readText}
 use Rattle.layout.specs.Machine.{drive}
@@ -28,7 +29,9 @@ stop-requires-2 c κs = search needs
 
 returns-3 : tie.Need-returns-3
 unfolding drive readText
-returns-3 c = goes-on _ _ _ _ (c .before .before .before .if1 .left) (c .before .before .if2 .left) _ (simp (lt-leb (c .before .before .before .before .before .before .before .args .self .at + 4) (length (now (c .before .before .before .before .before .before .before .args .s))) (omega arith), c .stop2 .ensures))
+returns-3 c =
+    let args = c .before .before .before .before .before .before .before .args in
+    goes-on _ _ _ _ (c .before .before .before .if1 .left) (c .before .before .if2 .left) _ (simp (lt-leb (args .self .at + 4) (length (now (args .s))) (omega arith), c .stop2 .ensures))
 
 sub-if4 : tie.Need-sub-if4
 sub-if4 c = search needs
@@ -38,7 +41,9 @@ stop-requires-3 c κs = search needs
 
 returns-4 : tie.Need-returns-4
 unfolding drive readText
-returns-4 c = goes-on _ _ _ _ (c .before .before .before .before .if1 .left) (c .before .before .before .if2 .left) _ (simp (lt-leb (c .before .before .before .before .before .before .before .before .args .self .at + 4) (length (now (c .before .before .before .before .before .before .before .before .args .s))) (omega arith), c .stop3 .ensures))
+returns-4 c =
+    let args = c .before .before .before .before .before .before .before .before .args in
+    goes-on _ _ _ _ (c .before .before .before .before .if1 .left) (c .before .before .before .if2 .left) _ (simp (lt-leb (args .self .at + 4) (length (now (args .s))) (omega arith), c .stop3 .ensures))
 
 number-at-requires : tie.Need-number-at-requires
 number-at-requires c κs = search needs
@@ -57,7 +62,13 @@ stop-requires-4 c κs = search needs
 
 returns-5 : tie.Need-returns-5
 unfolding drive readText
-returns-5 c = goes-on _ _ _ _ (c .before .before .before .before .before .before .if1 .left) (c .before .before .before .before .before .if2 .left) _ (rw (c .stop4 .ensures) (sym (text-long (now (c .before .before .before .before .before .before .before .before .before .before .args .s)) (readState (c .before .before .before .before .before .before .before .before .before .before .args .self) (now (c .before .before .before .before .before .before .before .before .before .before .args .t))) (c .before .before .number-at .result) (c .before .before .number-at .ensures) (omega arith) (omega arith))))
+returns-5 c =
+    let args = c .before .before .before .before .before .before .before .before .before .before .args in
+    let if1 = c .before .before .before .before .before .before .if1 in
+    let if2 = c .before .before .before .before .before .if2 in
+    let n = c .before .before .number-at .ensures ∙ number-there (now (args .s)) (args .self .at) (omega arith) in
+    goes-on _ _ _ _ (if1 .left) (if2 .left) _
+    (rw (c .stop4 .ensures) (sym (text-long (now (args .s)) (readState (args .self) (now (args .t))) (c .before .before .number-at .result) n (omega arith) (omega arith))))
 
 add-end : tie.Need-add-end
 add-end c = search needs
@@ -86,8 +97,17 @@ same-length c = search needs
 returns-6 : tie.Need-returns-6
 unfolding drive readText
 returns-6 c =
-    let at = c .before .before .before .before .before .before .before .before .before .before .before .before .before .before .before .before .args .self .at in let n = c .before .before .before .before .before .before .before .before .number-at .result in
-    goes-on _ _ _ _ (c .before .before .before .before .before .before .before .before .before .before .before .before .if1 .left) (c .before .before .before .before .before .before .before .before .before .before .before .if2 .left) _ (c .before .before .store .ensures ∙ sym (text-right _ (readState (c .before .before .before .before .before .before .before .before .before .before .before .before .before .before .before .before .args .self) (now (c .before .before .before .before .before .before .before .before .before .before .before .before .before .before .before .before .args .t))) n (c .before .before .before .before .before .before .before .before .number-at .ensures) (omega arith) (omega arith) (at + 4 + n - (at + 4)) (omega arith) (sym (c .before .before .before .before .before .is-utf8 .ensures .0) ∙ c .before .before .before .before .if6 .taken)))
+    let args = c .before .before .before .before .before .before .before .before .before .before .before .before .before .before .before .before .args in
+    let if1 = c .before .before .before .before .before .before .before .before .before .before .before .before .if1 in
+    let if2 = c .before .before .before .before .before .before .before .before .before .before .before .if2 in
+    let number-at = c .before .before .before .before .before .before .before .before .number-at in
+    let is-utf8 = c .before .before .before .before .before .is-utf8 in
+    let at = args .self .at in
+    let n = number-at .result in
+    let e = number-at .ensures ∙ number-there (now (args .s)) at (omega arith) in
+    goes-on _ _ _ _ (if1 .left) (if2 .left) _
+    (c .before .before .store .ensures
+    ∙ sym (text-right _ (readState (args .self) (now (args .t))) n e (omega arith) (omega arith) (at + 4 + n - (at + 4)) (omega arith) (sym (is-utf8 .ensures .0) ∙ c .before .before .before .before .if6 .taken)))
 
 stop-requires-5 : tie.Need-stop-requires-5
 stop-requires-5 c κs = search needs
@@ -95,8 +115,15 @@ stop-requires-5 c κs = search needs
 returns-7 : tie.Need-returns-7
 unfolding drive readText
 returns-7 c =
-    let at = c .before .before .before .before .before .before .before .before .before .before .before .before .before .args .self .at in let n = c .before .before .before .before .before .number-at .result in
-    goes-on _ _ _ _ (c .before .before .before .before .before .before .before .before .before .if1 .left) (c .before .before .before .before .before .before .before .before .if2 .left) _ (rw (c .stop5 .ensures) (sym (text-wrong _ (readState (c .before .before .before .before .before .before .before .before .before .before .before .before .before .args .self) (now (c .before .before .before .before .before .before .before .before .before .before .before .before .before .args .t))) n (c .before .before .before .before .before .number-at .ensures) (omega arith) (omega arith) (at + 4 + n - (at + 4)) (omega arith) (sym (c .before .before .is-utf8 .ensures .0) ∙ c .before .if6 .left))))
+    let args = c .before .before .before .before .before .before .before .before .before .before .before .before .before .args in
+    let if1 = c .before .before .before .before .before .before .before .before .before .if1 in
+    let if2 = c .before .before .before .before .before .before .before .before .if2 in
+    let number-at = c .before .before .before .before .before .number-at in
+    let at = args .self .at in
+    let n = number-at .result in
+    let e = number-at .ensures ∙ number-there (now (args .s)) at (omega arith) in
+    goes-on _ _ _ _ (if1 .left) (if2 .left) _
+    (rw (c .stop5 .ensures) (sym (text-wrong _ (readState (args .self) (now (args .t))) n e (omega arith) (omega arith) (at + 4 + n - (at + 4)) (omega arith) (sym (c .before .before .is-utf8 .ensures .0) ∙ c .before .if6 .left))))
 
 pub read-str-spec : {M : Type 1} → statement M
 read-str-spec =

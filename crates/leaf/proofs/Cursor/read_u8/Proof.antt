@@ -1,6 +1,6 @@
 -- The number that was read is a leaf of its sort.
 use borrow.Author.Needs.{needs}
-use Rattle.leaf.proofs.Leaves.{land-plain}
+use Rattle.leaf.proofs.Leaves.{number-arrives}
 use Rattle.leaf.specs.State.{readPlain}
 use Rattle.layout.specs.Machine.{drive}
 use Rattle.layout.specs.Layout.{Tag}
@@ -15,7 +15,7 @@ same-length c = search needs
 
 returns : tie.Need-returns
 unfolding drive readPlain
-returns c = rw (← land-plain Tag) (c .before .before .byte .ensures)
+returns c = rw (← number-arrives Tag) (c .before .before .byte .ensures)
 
 pub read-u8-spec : {M : Type 1} → statement M
 read-u8-spec = tie.close (tie.spec byte-requires same-length returns)

@@ -1,8 +1,10 @@
 -- The row fits, or it does not.
-use native.Mathlib.Omega.{arith}
-use lib.ListN.{length-set}
-use borrow.Author.Needs.{needs}
 use borrow.Author.Tests.{lt-ltb, le-ltb}
+use lib.ListN.{length-set}
+use mathlib.Core.Logic.{⊎-elim}
+use native.Mathlib.Omega.{arith}
+use native.Mathlib.Nat.{min-eq-left, min-eq-right, le-of-lt}
+use borrow.Author.Needs.{needs}
 use Rattle.leaf.proofs.Cursor.store.Statement.{statement}
 use Rattle.leaf.proofs.Cursor.store.Tie as tie
 
@@ -33,17 +35,16 @@ mul-t-3 c = search needs
 slice-write-t-3 : tie.Need-slice-write-t-3
 slice-write-t-3 c = simp length-set (omega arith)
 
-add-t14 : tie.Need-add-t14
-add-t14 c = search needs
+add-t12 : tie.Need-add-t12
+add-t12 c = ⊎-elim (λ w. omega (arith, w .0 .taken, w .2)) (λ w. omega (arith, w .2)) (c .before .if1 .came)
 
 same-length : tie.Need-same-length
-same-length c = search needs
+same-length c = ⊎-elim (λ w. rw (w .1) (simp length-set)) (λ w. rw (w .1)) (c .before .if1 .came)
 
 returns : tie.Need-returns
-returns c = simp (lt-ltb _ _ (c .if1 .taken))
-
-returns-2 : tie.Need-returns-2
-returns-2 c = simp (le-ltb _ _ (c .if1 .left))
+returns c =
+    ⊎-elim (λ w. simp (w .1, w .2, lt-ltb _ _ (w .0 .taken), min-eq-left (le-of-lt (w .0 .taken))))
+    (λ w. simp (w .1, w .2, le-ltb _ _ (w .0 .left), min-eq-right (w .0 .left))) (c .before .if1 .came)
 
 pub store-spec : {M : Type 1} → statement M
 store-spec =
@@ -58,7 +59,6 @@ store-spec =
     slice-write-t-2
     mul-t-3
     slice-write-t-3
-    add-t14
+    add-t12
     same-length
-    returns
-    returns-2)
+    returns)

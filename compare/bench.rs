@@ -195,7 +195,7 @@ fn main() {
         "{:32} {:>9} {:>8} {:>8} {:>9} {:>9} {:>8} {:>8} {:>5}",
         "a section of", "bytes", "entities", "rows", "here", "the Rust", "ratio", "by turns", "goal"
     );
-    race("functions, 8 MiB", &entries(8 * MIB, function), 3.0);
+    race("functions, 8 MiB", &entries(8 * MIB, function), 4.0);
     race("empty schemas, 8 MiB", &entries(8 * MIB, |_| schema(b"")), 5.0);
     race("one ASCII text, 8 MiB", &one_text(random.text(8 * MIB - 21, &[1])), 1.0);
     let mut long = random.text(8 * MIB - 24, &[3]);
@@ -203,9 +203,9 @@ fn main() {
     race("one text of 3 bytes each, 8 MiB", &one_text(long), 1.0);
     race("sentinels, 8 MiB", &entries(8 * MIB, |_| Entry(vec![0, 4, 0, 0, 0, 0x70, 0x67, 0x72, 0x78])), 1.0);
     race("padding, 8 MiB", &vec![0; 8 * MIB], 1.0);
-    race("functions, 64 KiB", &entries(MIB / 16, function), 3.0);
-    let small = race("functions, 1 MiB", &entries(MIB, function), 3.0);
-    let large = race("functions, 16 MiB", &entries(16 * MIB, function), 3.0);
+    race("functions, 64 KiB", &entries(MIB / 16, function), 4.0);
+    let small = race("functions, 1 MiB", &entries(MIB, function), 4.0);
+    let large = race("functions, 16 MiB", &entries(16 * MIB, function), 4.0);
     println!("\n16 times the bytes take {:.2} times as long here, {:.2} times in the Rust.", large.0 / small.0, large.1 / small.1);
     growth();
 

@@ -4,22 +4,25 @@
 The arguments are files of cases with their answers, of which the lines of reading (S, P, M, G), of parts (T, N, Q), of writing
 (W, w) and of objects (O) are taken, each once. The first file is one of all these but objects; the second is a sample of the
 Rust's own answers, by `compare/run --sample 2000 --seed 3629`. The cases below are added, with answers by the rules of
-document 01. Each reading that is accepted is followed by the same with a table of just as many rows, and with one of a row
-less, which 13 refuses; each writing that is accepted, by the same with a destination of just the length, and with one of a
-byte less, which 17 refuses. Each writing but one that 17 refuses is also measured (V, v), with no destination. For each
-section there is a case of the path report (R), whose pairs are counted here on the rows of the section's answer. In stdin a
-case has its own length before it, a part stands as its bytes, a table to be written stands behind the destination's size and
-the count of its numbers, the destination ends the answer after a refusal too, and = stands for the bytes of the case before.
-Prints how many cases of each letter there are. Run it in the repository's root after a change.
+document 01, and, each once, those of the text check (U), which stand with their answers in rfc3629.txt beside this script.
+Each reading that is accepted is followed by the same with a table of just as many rows, and with one of a row less, which 13
+refuses; each writing that is accepted, by the same with a destination of just the length, and with one of a byte less, which
+17 refuses. Each writing but one that 17 refuses is also measured (V, v), with no destination. For each section there is a case
+of the path report (R), whose pairs are counted here on the rows of the section's answer. In stdin a case has its own length
+before it, a part stands as its bytes, a table to be written stands behind the destination's size and the count of its numbers,
+the destination ends the answer after a refusal too, and = stands for the bytes of the case before. Prints how many cases of
+each letter there are. Run it in the repository's root after a change.
 """
 import sys
 from collections import Counter
+from pathlib import Path
 
 READINGS = ("S", "P", "M", "G")  # a section; one payload, one metadata record, one mapping, each alone
 PARTS = ("T", "N", "Q")  # a row's text, the SQL name from a row, the SQL text of a mapping
 WRITINGS = ("W", "w")  # a metadata record, one mapping
 MEASURINGS = {"W": "V", "w": "v"}  # the same, measured
-LETTERS = READINGS + PARTS + ("R",) + WRITINGS + ("V", "v", "O")  # R is the path report; O is a section as objects
+# R is the path report; O is a section as objects; U is the text check
+LETTERS = READINGS + PARTS + ("R",) + WRITINGS + ("V", "v", "O", "U")
 LENGTH_DIGITS = 5
 MANY = 5461  # rows
 ROW_WIDTH = 3
@@ -305,6 +308,10 @@ def answered():
         yield f"{letter} {table.replace(' ', ',')} {hexadecimal(text)} {length + 3} wrote {length} {written}{untouched(3)}"
     for letter, table, text, size, number in ADDED_REFUSED_WRITES:
         yield f"{letter} {table.replace(' ', ',') or '-'} {hexadecimal(text)} {size} refuse {number} 0"
+    for line in Path(__file__).with_name("rfc3629.txt").read_text().splitlines():
+        if not line.startswith("#"):
+            *octets, answer = line.split(" ")
+            yield f"U {''.join(octets)} {answer}"
 
 
 def reading(line):
@@ -411,8 +418,8 @@ def cases():
         if letter in WRITINGS:
             yield from writing(line)
             yield from measuring(line)
-        if letter == "O":
-            yield "O 0 " + line[2:]
+        if letter in ("O", "U"):
+            yield f"{letter} 0 {line[2:]}"
 
 
 def shortened(lines):

@@ -1,10 +1,11 @@
 #!/usr/bin/env python3
-"""Writes the cases of the crate text_cases: its stdin, and its stdout with the answers.
+"""Writes rfc3629.txt beside it: the cases of the text check, with their answers, which cases.py takes.
 
 The answers are those of RFC 3629's grammar, taken as a regular expression, and each must be the answer of Python's own
-UTF-8 decoder too. Run it in the repository's root after changing the list.
+UTF-8 decoder too. Run it after changing the list, and cases.py after it.
 """
 import re
+from pathlib import Path
 
 RANGES = {  # the alternatives of UTF8-char: for each byte its first and its last value
     "UTF8-1": [(0x00, 0x7F)],
@@ -80,14 +81,8 @@ groups += [(f"{name}: every edge of its ranges", list(edges(alternative))) for n
 groups += [(f"{name}: cut short", list(prefixes(alternative))) for name, alternative in RANGES.items() if len(alternative) > 1]
 groups += [("Around blocks of ASCII", list(blocks()))]
 
-stdin, stdout = [], []
+lines = []
 for title, texts in groups:
-    stdin.append("# " + title)
-    stdout.append("# " + title)
-    for text in dict.fromkeys(texts):
-        case = text.hex(" ") or "-"
-        stdin.append(case)
-        stdout.append(case + " " + answer(text))
-for name, lines in (("stdin", stdin), ("stdout", stdout)):
-    with open(f"crates/text_cases/{name}", "w") as file:
-        file.write("\n".join(lines) + "\n")
+    lines.append("# " + title)
+    lines += [f"{text.hex(' ') or '-'} {answer(text)}" for text in dict.fromkeys(texts)]
+Path(__file__).with_suffix(".txt").write_text("\n".join(lines) + "\n")

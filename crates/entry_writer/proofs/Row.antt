@@ -37,13 +37,6 @@ module _ (rows : List ℕ) (i sort : ℕ) (e : sort ≡ sortAt rows i) where
   unfolding rowLength
   length-text h = sort-text h _ _ _
 
-  pub length-above : 3 < sort → 4 ≤ rowLength rows i
-  length-above h = go (leb sort 5) refl
-    where
-      go : (b : Bool) → leb sort 5 ≡ b → 4 ≤ rowLength rows i
-      go true x = omega (arith, length-four h (leb-true sort 5 x))
-      go false x = omega (arith, length-text (leb-false sort 5 x))
-
   -- The bytes of a row, and how they are stored
   module _ (text : List ℕ) where
     pub bytes-one : sort ≤ 3 → rowBytes rows text i ≡ valueAt rows i % 256 ∷ []

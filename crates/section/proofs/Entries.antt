@@ -179,14 +179,6 @@ clear-from s at w end q = go (framingFrom s at) refl (sym (w .rest) ∙ q)
     go (ok ps e) k w = let v : e ≡ end = cc in record { parts = ps; frames = k ∙ rw v }
     go (refuse n p) k w = let z : _≡_ {A = ℕ} 0 1 = cc in absurd (omega arith)
 
-pub end-inside : (s : List ℕ) → Bytes s → (at end : ℕ) → at ≤ length s → Clear s at end → (at ≤ end) × (end ≤ length s)
-end-inside s u at end h c =
-    let f = all-ok (framed-as s u at h) (c .frames) in
-    (omega (arith, f .span .ends), go (f .payloads) (f .span .there) (f .span .ends))
-  where
-    go : (xs : List (List ℕ)) → drop at s ≡ framed xs ++ drop end s → end ≡ at + length (framed xs) → end ≤ length s
-    go xs e n = omega (arith, ap length e, length-append (framed xs) (drop end s), length-drop at s)
-
 -- The entities from the entry at a boundary on: if its payload is read, they stand before those behind it; if it is refused, and
 -- the framing is good, so is the section
 reads-on : (s : List ℕ) (at z : ℕ) (p : Part) → framingFrom s at ≡ partsBefore (p ∷ []) (framingFrom s z) → (es : List Placed) (m : ℕ) → readPayload s p ≡ ok es m → readFrom s at ≡ before es (readFrom s z)

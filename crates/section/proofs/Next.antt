@@ -61,9 +61,9 @@ module _ (s : List ℕ) (at : ℕ) where
       go true e = absurd (omega (arith, sentinel-whole e, end-inside (sentinel-whole e)))
       go false e = refl
 
-cond-same : (b : Bool) (x y z : ℕ) → (b ≡ true → x ≡ y) → cond b x z ≡ cond b y z
-cond-same true x y z h = h refl
-cond-same false x y z h = refl
+cond-agree : (b : Bool) (x y z : ℕ) → (b ≡ true → x ≡ y) → cond b x z ≡ cond b y z
+cond-agree true x y z h = h refl
+cond-agree false x y z h = refl
 
 -- The bound on the sentinels plays no part
 skipped-same : (s : List ℕ) (k j at : ℕ) → length s < at + k → length s < at + j → skipped k s at ≡ skipped j s at
@@ -71,26 +71,13 @@ unfolding skipped
 skipped-same s zero zero at h l = refl
 skipped-same s zero (suc j) at h l = sym (rw (sentinel-far s at (omega arith)))
 skipped-same s (suc k) zero at h l = rw (sentinel-far s at (omega arith))
-skipped-same s (suc k) (suc j) at h l = cond-same (sentinelAt s at) _ _ at λ e.
+skipped-same s (suc k) (suc j) at h l = cond-agree (sentinelAt s at) _ _ at λ e.
     skipped-same s k j (entryEnd s at) (omega (arith, sentinel-whole s at e)) (omega (arith, sentinel-whole s at e))
-
-skipped-none : (s : List ℕ) (k at : ℕ) → length s < at + k → sentinelAt s (skipped k s at) ≡ false
-unfolding skipped
-skipped-none s zero at h = sentinel-far s at (omega arith)
-skipped-none s (suc k) at h = go (sentinelAt s at) refl λ e. skipped-none s k (entryEnd s at) (omega (arith, sentinel-whole s at e))
-  where
-    go : (b : Bool) → sentinelAt s at ≡ b → (sentinelAt s at ≡ true → sentinelAt s (skipped k s (entryEnd s at)) ≡ false) → sentinelAt s (cond b (skipped k s (entryEnd s at)) at) ≡ false
-    go true e f = f e
-    go false e f = e
 
 module _ (s : List ℕ) (at : ℕ) where
   pub past-stay : sentinelAt s at ≡ false → pastSentinels s at ≡ at
   unfolding pastSentinels skipped
   past-stay e = rw e
-
-  pub past-none : sentinelAt s (pastSentinels s at) ≡ false
-  unfolding pastSentinels
-  past-none = skipped-none s (suc (length s)) at (omega arith)
 
   pub past-on : sentinelAt s at ≡ true → pastSentinels s at ≡ pastSentinels s (entryEnd s at)
   unfolding pastSentinels skipped

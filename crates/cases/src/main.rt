@@ -658,7 +658,7 @@ fn sql_text(numbers: &[u32; CASE_NUMBERS], s: &[u8], out: &mut [u8; OUT_SIZE]) -
 fn sql_text_with(s: &[u8], offset: u32, buffer: &mut [u8], out: &mut [u8; OUT_SIZE]) -> usize {
     let mut number = FILL;
     let mut place = FILL_PLACE;
-    parts::fill_sql_text(s, offset, buffer, &mut number, &mut place);
+    sql_text::fill_sql_text(s, offset, buffer, &mut number, &mut place);
     let end = sql_part(s, offset, buffer, out);
     put_refusal(out, end, Refusal { number, place })
 }
@@ -666,7 +666,7 @@ fn sql_text_with(s: &[u8], offset: u32, buffer: &mut [u8], out: &mut [u8; OUT_SI
 fn sql_part<'a>(s: &'a [u8], offset: u32, buffer: &'a [u8], out: &mut [u8; OUT_SIZE]) -> usize {
     let mut number = FILL;
     let mut place = FILL_PLACE;
-    let part = parts::sql_text(s, offset, buffer, &mut number, &mut place);
+    let part = sql_text::sql_text(s, offset, buffer, &mut number, &mut place);
     let end = spell_part(number, place, part, out);
     put_bytes(out, end, buffer)
 }

@@ -1,5 +1,5 @@
 -- The reading from bytes: it accepts exactly what a proper value derives, and the value is determined by its bytes.
-use Prim.Native.Nat.{ℕ, suc, _+_, _%_, _≤_, _<_}
+use Prim.Native.Nat.{ℕ, suc, _+_, _-_, _%_, _≤_, _<_}
 use native.Mathlib.Nat.{add-zero, add-suc}
 use native.Mathlib.Numerals.{add-one}
 use native.Mathlib.Omega.{arith}
@@ -7,7 +7,7 @@ use mathlib.Core.Bool.{true}
 use mathlib.Core.List.{List, [], _∷_, _++_, append-assoc, append-nil, append-cancel-left}
 use mathlib.Core.Path.{_≡_, refl, sym, ap, _∙_}
 use lib.ListN.{length, getD, take, drop, length-append, length-drop, take-append-drop}
-use lib.Seq.{drop-cons, getD-drop, drop-drop, drop-append-seam, take-append-seam, length-take-le}
+use lib.Seq.{drop-cons, drop-at, getD-drop, drop-drop, drop-append-seam, take-add, take-append-seam, length-take-le}
 use borrow.Author.Tests.{ltb-true, leb-true, lt-ltb, le-leb}
 use Rattle.layout.specs.Layout.{Sort, Kind, Tag, Flag, Number, Count, Leaf, plain, string, Layout, Value, leaves, Fits, Proper}
 use Rattle.layout.specs.Written.{four, bytesOf, bytes, Stand}
@@ -29,6 +29,12 @@ bytesOf-append (x ∷ a) b = rw (bytesOf-append a b, append-assoc)
 -- Behind what stands at a place
 pub behind : (s : List ℕ) (at : ℕ) (x y : List ℕ) → drop at s ≡ x ++ y → drop (at + length x) s ≡ y
 behind s at x y e = rw (← drop-drop (length x) at s, e, drop-append-seam)
+
+-- A part, cut at its end first
+pub drop-take : (l : List ℕ) (i n : ℕ) → i ≤ n → i ≤ length l → drop i (take n l) ≡ take (n - i) (drop i l)
+drop-take l i n h k =
+    let e : n ≡ i + (n - i) = omega arith in
+    ap (λ (m : ℕ). drop i (take m l)) e ∙ ap (drop i) (take-add i (n - i) l) ∙ drop-at (take i l) (take (n - i) (drop i l)) i (length-take-le i l k)
 
 inside : (s : List ℕ) (at : ℕ) (r : List ℕ) → drop at s ≡ r → (i : ℕ) → i < length r → at + i < length s
 inside s at r e i h = omega (arith, ap length e, length-drop at s)

@@ -12,10 +12,12 @@ ghost use Rattle.leaf.specs.Run.{run};
 ghost use Rattle.table.specs.Answers.{resultOf};
 ghost use Rattle.metadata.specs.Private.{BehindTag};
 
-// As, which most mappings are, is told apart first.
+// As, which most mappings are, is told apart first. Here and in read_argument_sql s is lent anew, so that the compiler passes its
+// place and length in registers.
 pub fn read_sql_mapping(c: Cursor, s: &[u8], t: &mut [u32]) -> Cursor
     ensures { λ r. ⌜ readState r (now (t .exit)) ≡ run SqlMapping (now (s .entry)) (readState c (now (t .entry))) ⌝ }
 {
+    let s = &*s;
     let at = c.at;
     let c = c.read_u8(s, t);
     if c.value == layout::SQL_MAPPING_AS {
@@ -95,6 +97,7 @@ pub fn read_sql_mapping_list(c: Cursor, s: &[u8], t: &mut [u32]) -> Cursor
 pub fn read_argument_sql(c: Cursor, s: &[u8], t: &mut [u32]) -> Cursor
     ensures { λ r. ⌜ readState r (now (t .exit)) ≡ run ArgumentSql (now (s .entry)) (readState c (now (t .entry))) ⌝ }
 {
+    let s = &*s;
     let at = c.at;
     let c = c.read_u8(s, t);
     let tag = c.value;

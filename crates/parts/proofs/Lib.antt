@@ -1,4 +1,2 @@
 pub mod RowText
 pub mod SqlName
-pub mod Numeric
-pub mod SqlText

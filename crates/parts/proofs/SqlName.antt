@@ -6,8 +6,9 @@ use mathlib.Core.List.{List, [], _∷_}
 use mathlib.Core.Path.{_≡_, refl, sym, ap, _∙_}
 use lib.Dec.{eqb}
 use lib.ListN.{length, getD, take, drop, length-drop}
-use lib.Seq.{drop-cons, drop-at, drop-drop, take-add, length-take-le}
+use lib.Seq.{drop-cons, drop-drop, length-take-le}
 use Rattle.layout.specs.Reading.{Outcome, ok, refuse}
+use Rattle.layout.proofs.InBytes.{drop-take}
 use Rattle.table.specs.declared.Row.{Row}
 use Rattle.parts.specs.declared.TextPlace.{TextPlace}
 use Rattle.parts.specs.declared.TextPlace.the-variants.{Section, Refused}
@@ -67,11 +68,6 @@ end-after name last (x ∷ y ∷ rest) a b =
 pub name-end : Name-end
 unfolding sqlName
 name-end name = end-after name name name (0, omega arith, refl) (0, omega arith, refl)
-
-drop-take : (l : List ℕ) (i n : ℕ) → i ≤ n → i ≤ length l → drop i (take n l) ≡ take (n - i) (drop i l)
-drop-take l i n h k =
-    let e : n ≡ i + (n - i) = omega arith in
-    ap (λ (m : ℕ). drop i (take m l)) e ∙ ap (drop i) (take-add i (n - i) l) ∙ drop-at (take i l) (take (n - i) (drop i l)) i (length-take-le i l k)
 
 pub name-part : Name-part
 unfolding sqlName

@@ -4,16 +4,12 @@ use mathlib.Core.List.{List, [], _∷_}
 use mathlib.Core.Path.{_≡_}
 use lib.ListN.{length, drop}
 use Rattle.decimal.specs.Ascii.{ascii}
-use Rattle.layout.specs.Layout.{Tag, plain, string, text}
+use Rattle.layout.specs.Layout.{string, text}
 use Rattle.layout.specs.Written.{rowAt}
-use Rattle.layout.specs.Entities.{SqlMapping}
 use Rattle.layout.specs.Reading.{ok, read}
 use Rattle.layout.specs.Answers.{limit}
-use Rattle.layout.specs.Theorems.{Bytes}
 use Rattle.table.specs.declared.Row.{Row}
 use Rattle.parts.specs.Parts.{rowText, partOf, sqlName, sqlNameIn}
-use Rattle.parts.specs.Numeric.{numericSize}
-use Rattle.parts.specs.SqlText.{in-buffer, sqlText, sqlPartOf, filled}
 
 -- The text of a row lies in the bytes: `row-lies` in RowText.antt
 abbrev pub Row-lies : Type 0
@@ -37,15 +33,3 @@ Name-part = (s : List ℕ) (row : Row) → partOf s (sqlNameIn s (rowText s row)
 abbrev pub Name-cases : Type 0
 Name-cases =
     (sqlName (ascii "a:::b") ≡ ascii ":b") × (sqlName (ascii "a::") ≡ []) × (sqlName (ascii "ab") ≡ ascii "ab")
-
--- The SQL text of As is the text that it stores: `as-part` in SqlText.antt
-abbrev pub As-part : Type 0
-As-part =
-    (s : List ℕ) → length s ≤ limit → Bytes s → (at : ℕ) (t : List ℕ) (end : ℕ) → read SqlMapping s at ≡ ok (plain Tag 1 ∷ string t ∷ []) end
-    → (buffer : List ℕ) → sqlPartOf s buffer (sqlText s at numericSize) ≡ t
-
--- Of a buffer that was filled, the part is the Numeric text: `filled-part` in SqlText.antt
-abbrev pub Filled-part : Type 0
-Filled-part =
-    (s : List ℕ) (at size : ℕ) (t : List ℕ) (end : ℕ) → sqlText s at size ≡ ok (in-buffer t) end
-    → (buffer : List ℕ) → sqlPartOf s (filled buffer (sqlText s at size)) (sqlText s at size) ≡ t

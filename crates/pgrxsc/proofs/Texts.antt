@@ -9,7 +9,8 @@ use Rattle.layout.specs.Written.{four, bytesOf, bytes}
 use Rattle.layout.specs.Entities.{Entity}
 use Rattle.layout.proofs.InBytes.{bytesOf-append, behind, read-complete}
 use Rattle.parts.proofs.RowText.{row-part}
-use Rattle.section.specs.Derivation.{Item, sentinel, entity, sentinelBytes, entries, ProperItems, Placed, placed}
+use Rattle.framing.specs.Entries.{sentinelBytes}
+use Rattle.section.specs.Derivation.{Item, sentinel, entity, entries, ProperItems, Placed, placed}
 use Rattle.pgrxsc.specs.Theorems.{Text-found}
 
 -- Each leaf of a list is as F says

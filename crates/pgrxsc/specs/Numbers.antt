@@ -7,7 +7,7 @@ use lib.ListN.{getD}
 use Rattle.layout.specs.Answers.{Answer, Result}
 use Rattle.layout.specs.Reading.{Outcome, ok, refuse}
 use Rattle.table.specs.Answers.{Total, counted, uncounted}
-use Rattle.parts.specs.SqlText.{SqlAnswer}
+use Rattle.sql_text.specs.SqlText.{SqlAnswer}
 
 -- A refusal
 abbrev pub refusalNumbers : (number place : ℕ) → List ℕ

@@ -1,9 +1,9 @@
 // The functions that programs in other languages call. Each hands its work on and adds nothing but the packing of the answer:
 // four numbers, of which the first two are a refusal's number and place, or 0 and 0.
 use length::Length;
-use parts::SqlPlace;
 use parts::TextPlace;
 use paths::PathReport;
+use sql_text::SqlPlace;
 use table::Answer;
 use table::Refusal;
 use table::Row;
@@ -20,7 +20,7 @@ ghost use Rattle.table.specs.Answers.{answerOf};
 ghost use Rattle.section.specs.Section.{reading};
 ghost use Rattle.section.specs.Demand3.{Demand3};
 ghost use Rattle.parts.specs.Parts.{rowText, sqlNameIn, foundPart};
-ghost use Rattle.parts.specs.SqlText.{sqlText, filled, sqlAnswer, sqlAnswerOf};
+ghost use Rattle.sql_text.specs.SqlText.{sqlText, filled, sqlAnswer, sqlAnswerOf};
 ghost use Rattle.paths.specs.Paths.{report, reportOf};
 ghost use Rattle.length.specs.Length.{lengthOf};
 ghost use Rattle.entry_writer.specs.Writing.{measured, write, lengthIn, written};
@@ -118,7 +118,7 @@ pub extern "C" fn pgrxsc_sql_text(
     ensures { λ r. ⌜ now (answer .exit) ≡ placeNumbers (sqlAnswer (sqlText (now (bytes .entry)) offset (length (now (buffer .entry))))) ⌝ }
     ensures { λ r. ⌜ now (buffer .exit) ≡ filled (now (buffer .entry)) (sqlText (now (bytes .entry)) offset (length (now (buffer .entry)))) ⌝ }
 {
-    let place = parts::place_sql_text(bytes, offset, buffer);
+    let place = sql_text::place_sql_text(bytes, offset, buffer);
     *answer = place_numbers(place);
     in_buffer(place)
 }

@@ -5,46 +5,33 @@ use mathlib.Core.List.{List}
 use mathlib.Core.Path.{_≡_, refl, sym, ap, subst, _∙_}
 use lib.ListN.{length}
 use borrow.Author.Tests.{lt-leb, le-leb}
-use Rattle.layout.specs.Reading.{Outcome, ok, refuse}
+use Rattle.layout.specs.Reading.{ok, refuse}
 use Rattle.layout.specs.Answers.{limit, Result, refusal}
 use Rattle.layout.specs.Theorems.{Bytes}
 use Rattle.leaf.specs.Answered.{answered}
-use Rattle.section.specs.Framing.{Parts, framing}
-use Rattle.section.specs.Answers.{framingOf, framingEnd, entryPayloads, ExactFraming}
+use Rattle.framing.specs.Framing.{Parts, framingFrom, framing}
+use Rattle.framing.specs.Answers.{framingOf, endOf, framingEnd}
+use Rattle.framing.specs.declared.Framed.{Framed}
+use Rattle.framing.specs.declared.Framed.the-variants.{Whole, Refused}
 use Rattle.section.specs.Section.{readSection, reading}
 use Rattle.section.specs.Demand3.{Demand3}
 use Rattle.section.specs.Entry.{Stage}
-use Rattle.section.specs.Private.{Reads, endOf}
+use Rattle.section.specs.Private.{Reads, Walked}
 use Rattle.table.specs.declared.Refusal.{Refusal}
-use Rattle.section.specs.declared.Framed.the-variants.{Whole, Refused}
-use Rattle.section.proofs.Refusals.{exact-framing}
 use Rattle.section.proofs.Demand3.{reading-meets}
 use Rattle.section.proofs.Entries.{answers}
-use Rattle.section.specs.declared.Framed as declared
 
 -- Both clauses, from the first
 pub promised : (s table : List ℕ) (r : Result) → Bytes s → r ≡ reading s table → (r ≡ reading s table) × Demand3 s table r
 promised s table r u e = (e, subst (λ (x : Result). Demand3 s table x) (sym e) (reading-meets s u table))
 
--- So for the framing alone: 1, or what the framing comes to
-module _ (s : List ℕ) (u : Bytes s) (o : Outcome ℕ (Unit {0})) where
-  promised-framing : o ≡ entryPayloads s → (o ≡ entryPayloads s) × ExactFraming s o
-  promised-framing e = (e, subst (ExactFraming s) (sym e) (exact-framing s u))
-
-  pub framing-limit : limit < length s → o ≡ refuse 1 0 → (o ≡ entryPayloads s) × ExactFraming s o
-  unfolding entryPayloads
-  framing-limit h e = promised-framing (e ∙ rw (lt-leb (length s) limit h))
-
-  pub framing-alone : length s ≤ limit → o ≡ framingEnd s → (o ≡ entryPayloads s) × ExactFraming s o
-  unfolding entryPayloads
-  framing-alone h e = promised-framing (e ∙ rw (le-leb (length s) limit h))
-
-module _ (s : List ℕ) (f : declared.Framed) (e : framingOf f ≡ framingEnd s) where
+-- What the framing comes to, from a boundary up to which it is good
+module _ {s : List ℕ} {at : ℕ} (w : Walked s at) (f : Framed) (e : framingOf f ≡ endOf (framingFrom s at)) where
   pub framing-whole : (end : ℕ) → f ≡ Whole end → framingEnd s ≡ ok tt end
-  framing-whole end k = sym e ∙ ap framingOf k
+  framing-whole end k = w .rest ∙ sym e ∙ ap framingOf k
 
   pub framing-refused : (x : Refusal) → f ≡ Refused x → framingEnd s ≡ refuse (x .number) (x .place)
-  framing-refused x k = sym e ∙ ap framingOf k
+  framing-refused x k = w .rest ∙ sym e ∙ ap framingOf k
 
 module _ (s table : List ℕ) (r : Result) where
   -- 1

@@ -12,9 +12,10 @@ use Rattle.layout.specs.Theorems.{Bytes}
 use Rattle.layout.proofs.Walk.{all-bind}
 use Rattle.layout.proofs.Judges.{payload-upto}
 use Rattle.layout.proofs.Alone.{Finds, exact, exact-only, told}
+use Rattle.framing.specs.Refusals.{BadBoundary, few-remain, length-zero, length-long, too-long, bad-boundary}
 use Rattle.section.specs.Derivation.{Derivation, Placed, entries, givenOf}
 use Rattle.section.specs.Section.{readSection, sectionGiven, reading}
-use Rattle.section.specs.Refusals.{BadBoundary, few-remain, length-zero, length-long, too-long, bad-boundary, SectionRefusal, bad-framing, bad-payload}
+use Rattle.section.specs.Refusals.{SectionRefusal, bad-framing, bad-payload}
 use Rattle.section.specs.Demand3.{Good, gives}
 use Rattle.section.specs.Theorems.{Reading-meets, Reading-only, Reading-told, Table-free, Padding-free}
 use Rattle.section.proofs.Derivation.{derivation-unique}

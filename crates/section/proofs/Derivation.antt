@@ -11,7 +11,9 @@ use Rattle.layout.specs.Entities.{Entity}
 use Rattle.layout.proofs.Numbers.{number-four}
 use Rattle.layout.proofs.Rows.{leaves-bytes}
 use Rattle.layout.proofs.InBytes.{value-unique}
-use Rattle.section.specs.Derivation.{Item, sentinel, entity, sentinelBytes, payload, entry, entries, ProperItem, ProperItems, Placed, placed, totalLeaves, entitiesOf, sentinels, leafSize, leafSizes, entitySizes}
+use Rattle.framing.specs.Entries.{sentinelBytes}
+use Rattle.framing.proofs.Framing.{four-zero}
+use Rattle.section.specs.Derivation.{Item, sentinel, entity, payload, entry, entries, ProperItem, ProperItems, Placed, placed, totalLeaves, entitiesOf, sentinels, leafSize, leafSizes, entitySizes}
 use Rattle.section.specs.Theorems.{Derivation-unique, Byte-sum, Rows-bound, movedBy, Sentinel-free}
 
 -- Sizes
@@ -87,13 +89,10 @@ item-unique (entity v) sentinel p q e = absurd (kind-some v (p .0) _ e)
 item-unique (entity v) (entity w) p q e = ap entity (value-unique Entity v w [] [] (p .0) (q .0) (rw e) .0)
 
 -- Padding is no entry
-zero-at : (m k : ℕ) → _≡_ {A = ℕ} (getD (replicate m 0) k 0) 0
+pub zero-at : (m k : ℕ) → _≡_ {A = ℕ} (getD (replicate m 0) k 0) 0
 zero-at zero k = refl
 zero-at (suc m) zero = refl
 zero-at (suc m) (suc k) = zero-at m k
-
-pub four-zero : (n : ℕ) → n < 4294967296 → n % 256 ≡ 0 → n / 256 % 256 ≡ 0 → n / 65536 % 256 ≡ 0 → n / 16777216 % 256 ≡ 0 → n ≡ 0
-four-zero n h a b c d = sym (number-four n h) ∙ rw (a, b, c, d)
 
 no-entry : (i : Item) (m : ℕ) (r : List ℕ) → ProperItem i → replicate m 0 ≡ entry i ++ r → ⊥
 no-entry i m r p e =

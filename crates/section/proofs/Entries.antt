@@ -1,151 +1,51 @@
 -- The walk over a section: from boundary to boundary, and what is read on the way.
 use Prim.Native.Nat.{ℕ, _+_, _*_, _/_, _≤_, _<_, min}
 use native.Mathlib.Omega.{arith}
-use mathlib.Core.Bool.{Bool, true, false, cond, _&&_}
+use mathlib.Core.Bool.{Bool, true, false, cond}
 use mathlib.Core.List.{List, [], _∷_, _++_, append-assoc, append-nil}
-use mathlib.Core.Logic.{_⊎_, inl, inr}
 use mathlib.Core.Path.{_≡_, refl, sym, ap, _∙_}
-use lib.Dec.{ltb, leb}
+use lib.Dec.{ltb}
 use lib.ListN.{length, take, drop, length-append, length-drop}
 use lib.Seq.{length-take-le}
-use borrow.Author.Tests.{ltb-true, ltb-false, leb-true, leb-false, le-leb, lt-leb, eq-eqb}
+use borrow.Author.Tests.{ltb-true, ltb-false, le-leb, lt-leb, eq-eqb}
 use Rattle.layout.specs.Layout.{Leaf}
 use Rattle.layout.specs.Written.{bytes, rowWidth}
 use Rattle.layout.specs.Entities.{Entity}
-use Rattle.layout.specs.Reading.{Outcome, ok, refuse, _>>=_, numberAt, read}
+use Rattle.layout.specs.Reading.{Outcome, ok, refuse, _>>=_, read}
 use Rattle.layout.specs.Answers.{limit, wholeRows, refusal}
 use Rattle.layout.specs.ReadAlone.{throughTable}
 use Rattle.layout.specs.Theorems.{Bytes}
 use Rattle.layout.proofs.Walk.{all-ok}
-use Rattle.layout.proofs.InBytes.{four-sound, number-small, read-sound}
+use Rattle.layout.proofs.InBytes.{read-sound}
 use Rattle.leaf.specs.declared.Cursor.{Cursor}
-use Rattle.bytes.specs.Bytes.{numberOr0}
+use Rattle.bytes.specs.Bytes.{numberOr0, same}
 use Rattle.leaf.specs.State.{ReadState, readState, newCursor, seek, finishedAt, stopped}
 use Rattle.leaf.specs.Run.{run}
 use Rattle.leaf.specs.Answered.{answered}
 use Rattle.leaf.specs.Theorems.{arriveAll, Follows}
-use Rattle.bytes.proofs.Number.{number-none, number-there}
+use Rattle.bytes.proofs.Number.{number-there}
 use Rattle.leaf.proofs.Table.{arriveAll-length, fills, counts}
 use Rattle.leaf.proofs.Reading.{arriveAll-refusal, moved-of, stops-of, run-read}
 use Rattle.leaf.proofs.Answered.{finished-refused, answered-refused, answered-told}
-use Rattle.section.specs.Derivation.{sentinelBytes, Placed, totalLeaves, rowsOf, givenOf}
-use Rattle.section.specs.Framing.{allZero, Part, Parts}
-use Rattle.section.specs.Answers.{framingEnd}
-use Rattle.bytes.specs.Bytes.{same}
+use Rattle.framing.specs.Framing.{Part, Parts, framingFrom}
+use Rattle.framing.specs.Answers.{endOf, framingEnd}
+use Rattle.framing.specs.Entries.{framed, Framable, sentinelBytes}
+use Rattle.framing.specs.Places.{entryEnd}
+use Rattle.framing.proofs.Framing.{partAt, partsOf, partsBefore, framing-start, framed-as, entry-at}
+use Rattle.framing.proofs.Entries.{Next, entry-here, none-here, whole-here, next-whole}
+use Rattle.framing.proofs.Refusals.{framing-end}
+use Rattle.section.specs.Derivation.{Placed, totalLeaves, rowsOf, givenOf}
 use Rattle.section.specs.Section.{ended, readEntity, readPayload, readPayloads, readSection}
-use Rattle.section.specs.Entry.{Stage, stage, seeks, entered, pastEntry, entryEnd}
-use Rattle.section.specs.Private.{arriveEntities, Reads, reads, stops, framingFrom, endOf, Walked, Walks}
-use Rattle.section.specs.Refusals.{framed, Framable}
-use Rattle.section.proofs.Framing.{partAt, partsOf, partsBefore, framing-start, framed-as, from-pad, from-few, from-zero, from-long, from-entry, four-not-zero, entry-at}
+use Rattle.section.specs.Entry.{Stage, stage, seeks, entered, pastEntry}
+use Rattle.section.specs.Private.{arriveEntities, Reads, reads, stops, Walked, Walks}
 use Rattle.section.proofs.Section.{bytes-take}
 
 pub walked-start : (s : List ℕ) → Walked s 0
-unfolding framingEnd
-walked-start s = record { inside = omega arith; rest = rw (framing-start s) }
+walked-start s = record { inside = omega arith; rest = sym (framing-end s) }
 
-end-before : (p : Part) (g : Parts) → endOf (partsBefore (p ∷ []) g) ≡ endOf g
-end-before p (ok ps end) = refl
-end-before p (refuse n q) = refl
-
--- A whole entry of n bytes at a boundary
-pub record Next (s : List ℕ) (at n : ℕ) : Type 0 where
-  pub inside : at + 4 + n ≤ length s
-  pub frames : framingFrom s at ≡ partsBefore (partAt at n ∷ []) (framingFrom s (at + 4 + n))
-  pub walked : Walked s (at + 4 + n)
-
-module _ (s : List ℕ) (at : ℕ) (w : Walked s at) where
-  -- b is what the test for zeros answers
-  module _ (b : Bool) (q : b ≡ allZero (drop at s)) where
-    pub ends-padding : b ≡ true → ok tt at ≡ framingEnd s
-    ends-padding k = sym (w .rest ∙ rw (from-pad s at (w .inside) (sym q ∙ k)))
-
-    module _ (k : b ≡ false) where
-      pub ends-few : length s < at + 4 → refuse 2 at ≡ framingEnd s
-      ends-few l = sym (w .rest ∙ rw (from-few s at (w .inside) (sym q ∙ k) l))
-
-      pub ends-zero : (n : ℕ) → n ≡ numberOr0 s at → at + 4 ≤ length s → n ≡ 0 → refuse 3 at ≡ framingEnd s
-      ends-zero n e m l = sym (w .rest ∙ rw (from-zero s at (w .inside) (sym q ∙ k) m (sym (number-there s at m) ∙ sym e ∙ l)))
-
-      pub ends-long : (n : ℕ) → n ≡ numberOr0 s at → at + 4 ≤ length s → 1 ≤ n → length s < at + 4 + n → refuse 4 at ≡ framingEnd s
-      ends-long n e m l j = sym (w .rest ∙ rw (from-long s at (w .inside) (sym q ∙ k) n (sym (number-there s at m) ∙ sym e) m l j))
-
-  next-entry : Bytes s → (n : ℕ) → n ≡ numberOr0 s at → 1 ≤ n → at + 4 + n ≤ length s → Next s at n
-  next-entry u n e l j =
-      let m : at + 4 ≤ length s = omega arith in
-      let k : numberAt s at ≡ n = sym (number-there s at m) ∙ sym e in
-      let z : allZero (drop at s) ≡ false = rw (four-sound s u at m) (four-not-zero (numberAt s at) (drop (at + 4) s) (rw k l) (number-small s u at m)) in
-      let f = from-entry s at (w .inside) z n k m l j in
-      record { inside = j; frames = f; walked = record { inside = j; rest = w .rest ∙ rw f (end-before (partAt at n) (framingFrom s (at + 4 + n))) } }
-
--- A whole entry stands at a boundary, or none
-module _ (s : List ℕ) (at : ℕ) where
-  pub length-some : (numberOr0 s at ≡ 0 → ⊥) → at + 4 ≤ length s
-  length-some h = go (leb (at + 4) (length s)) refl
-    where
-      go : (b : Bool) → leb (at + 4) (length s) ≡ b → at + 4 ≤ length s
-      go true e = leb-true (at + 4) (length s) e
-      go false e = absurd (h (number-none s at (leb-false (at + 4) (length s) e)))
-
-  pub entry-here : 1 ≤ numberOr0 s at → at + 4 + numberOr0 s at ≤ length s → entryEnd s at ≡ at + 4 + numberOr0 s at
-  unfolding entryEnd
-  entry-here h k = rw (le-leb 1 (numberOr0 s at) h, le-leb (at + 4 + numberOr0 s at) (length s) k)
-
-  pub entry-zero : numberOr0 s at ≡ 0 → entryEnd s at ≡ at
-  unfolding entryEnd
-  entry-zero h = rw h
-
-  pub entry-long : length s < at + 4 + numberOr0 s at → entryEnd s at ≡ at
-  unfolding entryEnd
-  entry-long h = go (leb 1 (numberOr0 s at))
-    where
-      go : (b : Bool) → cond (b && leb (at + 4 + numberOr0 s at) (length s)) (at + 4 + numberOr0 s at) at ≡ at
-      go true = rw (lt-leb (at + 4 + numberOr0 s at) (length s) h)
-      go false = refl
-
-  -- By its end
-  record Whole : Type 0 where
-    some : 1 ≤ numberOr0 s at
-    inside : at + 4 + numberOr0 s at ≤ length s
-
-  whole-or-none : (entryEnd s at ≡ at) ⊎ Whole
-  whole-or-none = go (leb 1 (numberOr0 s at)) (leb (at + 4 + numberOr0 s at) (length s)) refl refl
-    where
-      go : (b c : Bool) → leb 1 (numberOr0 s at) ≡ b → leb (at + 4 + numberOr0 s at) (length s) ≡ c → (entryEnd s at ≡ at) ⊎ Whole
-      go true true e f = inr (record { some = leb-true 1 (numberOr0 s at) e; inside = leb-true (at + 4 + numberOr0 s at) (length s) f })
-      go true false e f = inl (entry-long (leb-false (at + 4 + numberOr0 s at) (length s) f))
-      go false c e f = inl (entry-zero (omega (arith, leb-false 1 (numberOr0 s at) e)))
-
-  pub none-here : entryEnd s at ≤ at → entryEnd s at ≡ at
-  none-here h = go whole-or-none
-    where
-      go : (entryEnd s at ≡ at) ⊎ Whole → entryEnd s at ≡ at
-      go (inl e) = e
-      go (inr w) = absurd (omega (arith, entry-here (w .some) (w .inside)))
-
-  pub whole-here : at < entryEnd s at → (entryEnd s at ≡ at + 4 + numberOr0 s at) × (1 ≤ numberOr0 s at) × (at + 4 + numberOr0 s at ≤ length s)
-  whole-here h = go whole-or-none
-    where
-      go : (entryEnd s at ≡ at) ⊎ Whole → (entryEnd s at ≡ at + 4 + numberOr0 s at) × (1 ≤ numberOr0 s at) × (at + 4 + numberOr0 s at ≤ length s)
-      go (inl e) = absurd (omega arith)
-      go (inr w) = (entry-here (w .some) (w .inside), w .some, w .inside)
-
--- From a boundary to the next, by the end of its entry
-module _ (s : List ℕ) (u : Bytes s) (at : ℕ) (w : Walked s at) where
-  next-whole : at < entryEnd s at → Next s at (numberOr0 s at)
-  next-whole h = next-entry s at w u (numberOr0 s at) refl (whole-here s at h .1) (whole-here s at h .2)
-
-  pub end-walked : (end : ℕ) → end ≡ entryEnd s at → at < end → Walked s end
-  end-walked end q l =
-      let h : at < entryEnd s at = omega (arith, q) in
-      rw (q, whole-here s at h .0) (next-whole h .walked)
-
--- No whole entry stands at a boundary where the length is too long
-pub none-long : (s : List ℕ) (at : ℕ) → entryEnd s at ≡ at → 1 ≤ numberOr0 s at → length s < at + 4 + numberOr0 s at
-none-long s at e h = go (leb (at + 4 + numberOr0 s at) (length s)) refl
-  where
-    go : (b : Bool) → leb (at + 4 + numberOr0 s at) (length s) ≡ b → length s < at + 4 + numberOr0 s at
-    go true f = absurd (omega (arith, e, entry-here s at h (leb-true (at + 4 + numberOr0 s at) (length s) f)))
-    go false f = leb-false (at + 4 + numberOr0 s at) (length s) f
+-- Behind a whole entry
+walked-on : {s : List ℕ} {at n : ℕ} → Walked s at → Next s at n → Walked s (at + 4 + n)
+walked-on w x = record { inside = x .inside; rest = w .rest ∙ x .ends }
 
 -- The entities from a boundary on
 unfoldable pub readFrom : List ℕ → ℕ → Outcome ℕ (List Placed)
@@ -239,7 +139,7 @@ pub record Leads (s table : List ℕ) (end : ℕ) (g : Stage) : Type 0 where
   pub goes : g .state .cursor .refusal ≡ 0 → Come s table end g
 
 module _ (s table : List ℕ) (u : Bytes s) (small : length s ≤ limit) where
-  module _ (at : ℕ) (es : List Placed) (rest : readSection s ≡ before es (readFrom s at)) (n : ℕ) (x : Next s at n) (few : length es ≤ at) where
+  module _ (at : ℕ) (es : List Placed) (rest : readSection s ≡ before es (readFrom s at)) (good : Walked s at) (n : ℕ) (x : Next s at n) (few : length es ≤ at) where
     abbrev st : ReadState
     st = arriveEntities es (readState newCursor table)
 
@@ -247,14 +147,14 @@ module _ (s table : List ℕ) (u : Bytes s) (small : length s ≤ limit) where
     z = at + 4 + n
 
     off : (k p : ℕ) → readPayload s (partAt at n) ≡ refuse k p → (end : ℕ) → framingEnd s ≡ ok tt end → readSection s ≡ refuse k p
-    off k p q end f = rest ∙ rw (reads-off s at z (partAt at n) (x .frames) k p q end (clear-from s z (x .walked) end f))
+    off k p q end f = rest ∙ rw (reads-off s at z (partAt at n) (x .frames) k p q end (clear-from s z (walked-on good x) end f))
 
     on : (fs : List Placed) (m : ℕ) → readPayload s (partAt at n) ≡ ok fs m → readSection s ≡ before (es ++ fs) (readFrom s z)
     on fs m q = rest ∙ ap (before es) (reads-on s at z (partAt at n) (x .frames) fs m q) ∙ before-append es fs (readFrom s z)
 
     leads-refused : (g : Stage) (k p : ℕ) → g .state .cursor .refusal ≡ k → (k ≡ 0 → ⊥) → g .state .cursor .at ≡ p → length (g .state .table) ≡ length table → readPayload s (partAt at n) ≡ refuse k p → Leads s table z g
     leads-refused g k p e i q l r = record {
-      refuses = λ w. record { walked = x .walked; kept = l; reads = λ end f. rw (off k p r end f) (stops (e, i, q, l)) };
+      refuses = λ w. record { walked = walked-on good x; kept = l; reads = λ end f. rw (off k p r end f) (stops (e, i, q, l)) };
       goes = λ w. absurd (i (sym e ∙ w));
     }
 
@@ -269,7 +169,7 @@ module _ (s table : List ℕ) (u : Bytes s) (small : length s ≤ limit) where
     leads-sentinel : same (drop (at + 4) (take z s)) sentinelBytes ≡ true → Leads s table z (stage (seeks z st) (length es))
     leads-sentinel q =
         leads-on (stage (seeks z st) (length es)) (arriveEntities-refusal es (readState newCursor table))
-        (record { found = es; stands = refl; rest = on [] z (is-sentinel q) ∙ rw append-nil; walked = x .walked; few = omega arith })
+        (record { found = es; stands = refl; rest = on [] z (is-sentinel q) ∙ rw append-nil; walked = walked-on good x; few = omega arith })
 
     -- An entity
     module _ (f : same (drop (at + 4) (take z s)) sentinelBytes ≡ false) where
@@ -327,7 +227,7 @@ module _ (s table : List ℕ) (u : Bytes s) (small : length s ≤ limit) where
                 ∙ ap (λ (b : ℕ). stage (seeks b r) (length es + 1)) a
                 ∙ sym (ap (λ (t : ReadState). stage (seeks z t) (length (es ++ (j ∷ [])))) k ∙ ap (λ (b : ℕ). stage (seeks z r) b) l);
             rest = on (j ∷ []) m (payload-read (ok ls m) q ∙ rw (le-leb z m (omega arith)));
-            walked = x .walked;
+            walked = walked-on good x;
             few = omega arith;
           })
 
@@ -361,7 +261,7 @@ module _ (s table : List ℕ) (u : Bytes s) (small : length s ≤ limit) where
 
       pub leads : (r : Stage) → r ≡ pastEntry s g → Leads s table end r
       unfolding pastEntry
-      leads r e = rw (q, whole-here s at here .0, e, h .stands) (leads-entered at (h .found) (h .rest) (numberOr0 s at) (next-whole s u at (h .walked) here) (h .few))
+      leads r e = rw (q, whole-here s at here .0, e, h .stands) (leads-entered at (h .found) (h .rest) (h .walked) (numberOr0 s at) (next-whole s u at here) (h .few))
 
     -- Where no whole entry stands
     pub come-end : end ≤ at → Walks s table at g

@@ -1,11 +1,8 @@
 pub mod Derivation
-pub mod Framing
 pub mod Section
 pub mod Refusals
 pub mod Demand3
 pub mod Rest
 pub mod Entries
-pub mod Bytes
-pub mod Sentinel
 pub mod Next
 pub mod Decode

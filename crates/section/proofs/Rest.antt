@@ -1,5 +1,5 @@
 -- The rest of a derived section, entry after entry.
-use Prim.Native.Nat.{ℕ, zero, suc, _+_, _≤_}
+use Prim.Native.Nat.{ℕ, _+_, _≤_}
 use native.Mathlib.Nat.{add-zero}
 use native.Mathlib.Omega.{arith}
 use mathlib.Core.Bool.{Bool, true, false, cond}
@@ -11,11 +11,11 @@ use Rattle.layout.specs.Reading.{enough}
 use Rattle.layout.specs.Answers.{limit}
 use Rattle.bytes.specs.Bytes.{numberOr0}
 use Rattle.bytes.proofs.Number.{number-there}
+use Rattle.framing.proofs.Framing.{entry-at}
 use Rattle.section.specs.Derivation.{Item, Derivation, payload, entries, ProperItem, ProperItems}
 use Rattle.section.specs.Demand3.{Good}
 use Rattle.section.specs.Rest.{Rest}
-use Rattle.section.proofs.Derivation.{payload-some, payload-small, derivation-unique}
-use Rattle.section.proofs.Framing.{entry-at}
+use Rattle.section.proofs.Derivation.{payload-some, payload-small, zero-at, derivation-unique}
 
 -- The whole section
 abbrev pub rest-whole : (s : List ℕ) (d : Derivation) → Good s d → Rest s 0
@@ -26,11 +26,6 @@ pub rest-unique : {s : List ℕ} {at : ℕ} (w x : Rest s at) → w .derivation 
 rest-unique {s} {at} w x = derivation-unique (drop at s) (w .derivation) (x .derivation) (w .by) (x .by)
 
 -- In padding the length is 0
-zero-at : (m k : ℕ) → _≡_ {A = ℕ} (getD (replicate m 0) k 0) 0
-zero-at zero k = refl
-zero-at (suc m) zero = refl
-zero-at (suc m) (suc k) = zero-at m k
-
 cond-same : (b : Bool) → _≡_ {A = ℕ} (cond b 0 0) 0
 cond-same true = refl
 cond-same false = refl

@@ -16,16 +16,16 @@ use Rattle.layout.specs.Theorems.{Bytes}
 use Rattle.layout.proofs.Walk.{All, given, refused, all-bind, all-need, all-ok, all-when}
 use Rattle.layout.proofs.BadReads.{not-true}
 use Rattle.layout.proofs.InBytes.{behind, read-complete, read-sound}
-use Rattle.section.specs.Derivation.{Item, sentinel, entity, Derivation, sentinelBytes, payload, entries, ProperItem, ProperItems, Placed, placed, entitiesOf}
-use Rattle.section.specs.Framing.{framing}
+use Rattle.framing.specs.Framing.{framing}
+use Rattle.framing.specs.Entries.{framed, Framable, sentinelBytes}
+use Rattle.framing.proofs.Framing.{partAt, partsOf, all-cond, framing-complete, framing-sound}
+use Rattle.section.specs.Derivation.{Item, sentinel, entity, Derivation, payload, entries, ProperItem, ProperItems, Placed, placed, entitiesOf}
 use Rattle.bytes.specs.Bytes.{same}
 use Rattle.bytes.proofs.Compared.{same-sound}
 use Rattle.section.specs.Section.{readEntity, readPayload, readPayloads, readSection}
 use Rattle.section.specs.Demand3.{Good}
 use Rattle.section.specs.Theorems.{Section-exact}
 use Rattle.section.proofs.Derivation.{payload-some, payload-small, kind-some, append-parts}
-use Rattle.section.specs.Refusals.{framed, Framable}
-use Rattle.section.proofs.Framing.{partAt, partsOf, all-cond, framing-complete, framing-sound}
 
 module _ {S A : Type 0} where
   pub all-map : {P Q : A → S → Type 0} {m : Outcome S A} → All P m → ((a : A) (st : S) → P a st → Q a st) → All Q m

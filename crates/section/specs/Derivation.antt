@@ -6,6 +6,7 @@ use Rattle.layout.specs.Layout.{Leaf, plain, string, Value, leaves, Proper}
 use Rattle.layout.specs.Written.{four, width, bytes, rowsFrom}
 use Rattle.layout.specs.Entities.{Entity}
 use Rattle.layout.specs.Answers.{Given}
+use Rattle.framing.specs.Entries.{sentinelBytes}
 
 -- An item: the sentinel, or an entity
 pub data Item : Type 0 where
@@ -16,10 +17,6 @@ pub data Item : Type 0 where
 pub record Derivation : Type 0 where
   pub items : List Item
   pub padding : ℕ
-
--- The sentinel's payload
-abbrev pub sentinelBytes : List ℕ
-sentinelBytes = 0x00 ∷ 0x04 ∷ 0x00 ∷ 0x00 ∷ 0x00 ∷ 0x70 ∷ 0x67 ∷ 0x72 ∷ 0x78 ∷ []
 
 -- An item's payload
 abbrev pub payload : Item → List ℕ

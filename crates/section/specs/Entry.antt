@@ -1,6 +1,6 @@
--- One entry of a section: where it ends, and what it makes of a reading that stands before it.
-use Prim.Native.Nat.{ℕ, zero, suc, _+_}
-use mathlib.Core.Bool.{Bool, cond, _&&_}
+-- One entry of a section: what it makes of a reading that stands before it.
+use Prim.Native.Nat.{ℕ, _+_}
+use mathlib.Core.Bool.{cond, _&&_}
 use mathlib.Core.List.{List}
 use lib.Dec.{eqb, ltb, leb}
 use lib.ListN.{length, take, drop}
@@ -9,7 +9,8 @@ use Rattle.layout.specs.Answers.{limit}
 use Rattle.bytes.specs.Bytes.{numberOr0, same}
 use Rattle.leaf.specs.State.{ReadState, readState, seek, finishedAt}
 use Rattle.leaf.specs.Run.{run}
-use Rattle.section.specs.Derivation.{sentinelBytes}
+use Rattle.framing.specs.Entries.{sentinelBytes}
+use Rattle.framing.specs.Places.{entryEnd}
 use Rattle.section.specs.declared.Progress.{Progress}
 
 -- What is read so far, with the table
@@ -43,25 +44,8 @@ pastEntry s g =
     let at = g .state .cursor .at in
     entered s (at + 4) (at + 4 + numberOr0 s at) g
 
--- Where the entry at a place ends; the place itself, if no whole entry stands there
-unfoldable pub entryEnd : List ℕ → (place : ℕ) → ℕ
-entryEnd s at = cond (leb 1 (numberOr0 s at) && leb (at + 4 + numberOr0 s at) (length s)) (at + 4 + numberOr0 s at) at
-
 -- One entry from any stage. It stays as it is once it is refused, where no whole entry stands, and with too many bytes or entities
 unfoldable pub readEntry : List ℕ → Stage → Stage
 readEntry s g =
     let c = g .state .cursor in
     cond (eqb (c .refusal) 0 && (leb (length s) limit && (leb (g .entities) limit && ltb (c .at) (entryEnd s (c .at))))) (pastEntry s g) g
-
--- The sentinel's entry stands at a place
-unfoldable pub sentinelAt : List ℕ → (place : ℕ) → Bool
-sentinelAt s at = ltb at (entryEnd s at) && same (drop (at + 4) (take (entryEnd s at) s)) sentinelBytes
-
--- Past sentinels that stand one after the other, at most so many
-unfoldable pub skipped : ℕ → List ℕ → (place : ℕ) → ℕ
-skipped zero s at = at
-skipped (suc k) s at = cond (sentinelAt s at) (skipped k s (entryEnd s at)) at
-
--- Past all of them. There are fewer than bytes
-unfoldable pub pastSentinels : List ℕ → (place : ℕ) → ℕ
-pastSentinels s at = skipped (suc (length s)) s at

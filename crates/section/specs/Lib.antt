@@ -1,8 +1,6 @@
 pub mod Derivation
-pub mod Framing
 pub mod Refusals
 pub mod Section
-pub mod Answers
 pub mod Entry
 pub mod Demand3
 pub mod Rest

@@ -1,14 +1,14 @@
 -- What only the private functions of the crate promise one another. No public contract cites anything here.
-use Prim.Native.Nat.{ℕ, suc, _≤_}
+use Prim.Native.Nat.{ℕ, _≤_}
 use mathlib.Core.List.{List, [], _∷_}
 use mathlib.Core.Path.{_≡_}
 use lib.ListN.{length}
-use Rattle.layout.specs.Reading.{Outcome, ok, refuse, _>>=_}
+use Rattle.layout.specs.Reading.{Outcome, ok, refuse}
 use Rattle.leaf.specs.State.{ReadState, readState, newCursor}
 use Rattle.leaf.specs.Theorems.{arriveAll}
 use Rattle.section.specs.Derivation.{Placed}
-use Rattle.section.specs.Framing.{Parts, boundaries}
-use Rattle.section.specs.Answers.{framingEnd}
+use Rattle.framing.specs.Framing.{framingFrom}
+use Rattle.framing.specs.Answers.{endOf, framingEnd}
 use Rattle.section.specs.Section.{readSection}
 use Rattle.section.specs.Entry.{Stage, stage, seeks}
 
@@ -21,14 +21,6 @@ arriveEntities (e ∷ es) st = arriveEntities es (arriveAll (e .content) (seeks 
 pub data Reads (table : List ℕ) (end : ℕ) (g : Stage) : Outcome ℕ (List Placed) → Type 0 where
   reads : {es : List Placed} {at : ℕ} → g ≡ stage (seeks end (arriveEntities es (readState newCursor table))) (length es) → Reads table end g (ok es at)
   stops : {n p : ℕ} → (g .state .cursor .refusal ≡ n) × (n ≡ 0 → ⊥) × (g .state .cursor .at ≡ p) × (length (g .state .table) ≡ length table) → Reads table end g (refuse n p)
-
--- The framing from a boundary on. The bound on the boundaries plays no part
-unfoldable pub framingFrom : List ℕ → ℕ → Parts
-framingFrom s at = boundaries (suc (length s)) s at
-
--- Where a framing ends, without the parts that it finds
-abbrev pub endOf : Parts → Outcome ℕ (Unit {0})
-endOf g = g >>= λ parts end. ok tt end
 
 -- A boundary up to which the framing is good: how it ends is how it goes on from there
 pub record Walked (s : List ℕ) (at : ℕ) : Type 0 where

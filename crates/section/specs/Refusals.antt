@@ -1,45 +1,15 @@
 -- The refusals 1 to 12 of a section, each under its condition: document 01, "When intake says no". Nothing here is taken from
 -- the reader.
-use Prim.Native.Nat.{ℕ, _+_, _≤_, _<_}
-use mathlib.Core.List.{List, [], _∷_, _++_}
+use Prim.Native.Nat.{ℕ, _+_, _≤_}
+use mathlib.Core.List.{List, _∷_, _++_}
 use mathlib.Core.Path.{_≡_}
-use lib.ListN.{length, getD, take, drop, replicate}
-use Rattle.layout.specs.Layout.{Number, one}
-use Rattle.layout.specs.Written.{four, Stand}
-use Rattle.layout.specs.BadReads.{Stands, BadPayload}
+use lib.ListN.{length, take, replicate}
+use Rattle.layout.specs.BadReads.{BadPayload}
 use Rattle.layout.specs.Entities.{Entity}
 use Rattle.layout.specs.Answers.{limit}
-use Rattle.section.specs.Derivation.{Item, sentinelBytes, entries, ProperItems}
-
--- Payloads as entries, one after the other
-abbrev pub framed : List (List ℕ) → List ℕ
-framed [] = []
-framed (x ∷ xs) = four (length x) ++ x ++ framed xs
-
--- The length of each payload is at least 1 and fits 4 bytes
-abbrev pub Framable : List (List ℕ) → Type 0
-Framable [] = Unit {0}
-Framable (x ∷ xs) = (1 ≤ length x) × (length x < 4294967296) × Framable xs
-
--- A boundary: the section's start, or the end of an entry. `before` has the payloads of the entries before it
-pub record Boundary (s : List ℕ) (at : ℕ) : Type 0 where
-  pub before : List (List ℕ)
-  pub framable : Framable before
-  pub there : s ≡ framed before ++ drop at s
-  pub ends : at ≡ length (framed before)
-
--- A byte that is not zero stands at a place or after it
-abbrev pub NonZeroFrom : List ℕ → (at : ℕ) → Type 0
-NonZeroFrom s at = (i : ℕ) × (at ≤ i) × (i < length s) × (1 ≤ getD s i 0)
-
--- 2 to 4, at a boundary
-pub data BadBoundary (s : List ℕ) (at : ℕ) : (number : ℕ) → Type 0 where
-  -- 2, one to three bytes remain, and not all are zero
-  few-remain : at < length s → length s < at + 4 → NonZeroFrom s at → BadBoundary s at 2
-  -- 3, the length is 0, and a byte that is not zero stands after it
-  length-zero : {m : ℕ} → Stand s at (four 0) m → NonZeroFrom s m → BadBoundary s at 3
-  -- 4, the length exceeds the bytes after it
-  length-long : {n m : ℕ} → Stands s (one Number) at n m → length s < m + n → BadBoundary s at 4
+use Rattle.framing.specs.Entries.{framed, Framable, sentinelBytes}
+use Rattle.framing.specs.Refusals.{FramingRefusal}
+use Rattle.section.specs.Derivation.{Item, entries, ProperItems}
 
 -- The first bad payload of a section whose framing is right: the items before it, itself, and the payloads and the padding after it
 pub record BadEntry (s : List ℕ) (n p : ℕ) : Type 0 where
@@ -53,20 +23,7 @@ pub record BadEntry (s : List ℕ) (n p : ℕ) : Type 0 where
   pub other : pay ≡ sentinelBytes → ⊥
   pub is : BadPayload (take (length (entries before) + 4 + length pay) s) Entity (length (entries before) + 4) n p
 
--- A refusal of the framing: 1 comes first; then 2 to 4 at a bad boundary, which is the only one: no boundary stands behind it
-pub data FramingRefusal (s : List ℕ) : (number place : ℕ) → Type 0 where
-  too-long : limit < length s → FramingRefusal s 1 0
-  bad-boundary : {n p : ℕ} → length s ≤ limit → Boundary s p → BadBoundary s p n → FramingRefusal s n p
-
 -- A refusal of a section: 1 to 4, of its framing; then 5 to 12, in the first bad payload
 pub data SectionRefusal (s : List ℕ) : (number place : ℕ) → Type 0 where
   bad-framing : {n p : ℕ} → FramingRefusal s n p → SectionRefusal s n p
   bad-payload : {n p : ℕ} → length s ≤ limit → BadEntry s n p → SectionRefusal s n p
-
--- A framing that is right: entries, then padding, which begins at `end`
-pub record WholeFraming (s : List ℕ) (end : ℕ) : Type 0 where
-  pub payloads : List (List ℕ)
-  pub padding : ℕ
-  pub framable : Framable payloads
-  pub there : s ≡ framed payloads ++ replicate padding 0
-  pub ends : end ≡ length (framed payloads)

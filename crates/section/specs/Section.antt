@@ -10,8 +10,9 @@ use Rattle.layout.specs.Reading.{Outcome, ok, _>>=_, need, read}
 use Rattle.layout.specs.Answers.{limit, Result, Given}
 use Rattle.layout.specs.ReadAlone.{throughTable}
 use Rattle.bytes.specs.Bytes.{same}
-use Rattle.section.specs.Derivation.{Placed, sentinelBytes, givenOf}
-use Rattle.section.specs.Framing.{Part, framing}
+use Rattle.framing.specs.Framing.{Part, framing}
+use Rattle.framing.specs.Entries.{sentinelBytes}
+use Rattle.section.specs.Derivation.{Placed, givenOf}
 
 -- The leaves of an entity that ends with its payload; else 12, at the first byte that remains
 abbrev pub ended : Part → List Leaf → (end : ℕ) → Outcome ℕ (List Placed)

@@ -9,7 +9,6 @@ use Rattle.layout.specs.Answers.{limit, Result}
 use Rattle.layout.specs.Theorems.{Bytes, Told}
 use Rattle.section.specs.Derivation.{Item, sentinel, Placed, Derivation, entries, derive, placed, totalLeaves, entitiesOf, sentinels, entitySizes}
 use Rattle.section.specs.Section.{readSection, reading}
-use Rattle.section.specs.Answers.{entryPayloads, ExactFraming}
 use Rattle.section.specs.Refusals.{SectionRefusal}
 use Rattle.section.specs.Demand3.{DerivedBy, Good, Demand3}
 
@@ -22,10 +21,6 @@ Section-exact =
 -- A section is refused exactly under the condition of its refusal: `refusal-exact` in Refusals.antt
 abbrev pub Refusal-exact : Type 0
 Refusal-exact = (s : List ℕ) → Bytes s → (n p : ℕ) → (readSection s ≡ refuse n p) ↔ SectionRefusal s n p
-
--- The framing alone is as its promise says: `exact-framing` in Refusals.antt
-abbrev pub Exact-framing : Type 0
-Exact-framing = (s : List ℕ) → Bytes s → ExactFraming s (entryPayloads s)
 
 -- No section has two refusals: `refusal-unique` in Refusals.antt
 abbrev pub Refusal-unique : Type 0

@@ -15,7 +15,7 @@ use Rattle.entry_writer.specs.Writing.{write}
 use Rattle.section.specs.Derivation.{Item, sentinel, entity, Derivation}
 use Rattle.section.specs.Refusals.{SectionRefusal}
 use Rattle.section.specs.Demand3.{Good}
-use Rattle.parts.specs.Numeric.{numericText}
+use Rattle.numeric.specs.Numeric.{numericText}
 use Rattle.listing.specs.Listing.{lentTable, resultLines, listing}
 
 -- What is given: a section with its derivation; a section with the number and the place of its refusal; a metadata record with

@@ -1,7 +1,7 @@
 -- In the section, in the buffer, or refused.
 use Rattle.pgrxsc.specs.Numbers.{placeNumbers}
-use Rattle.parts.specs.SqlText.{sqlAnswerOf}
-use Rattle.parts.specs.declared.SqlPlace.{SqlPlace}
+use Rattle.sql_text.specs.SqlText.{sqlAnswerOf}
+use Rattle.sql_text.specs.declared.SqlPlace.{SqlPlace}
 use mathlib.Core.Path.{sym, ap, _∙_}
 use borrow.Author.Needs.{needs}
 use Rattle.pgrxsc.proofs.place_numbers.Statement.{statement}

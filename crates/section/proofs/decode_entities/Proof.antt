@@ -52,7 +52,7 @@ returns-2 c =
     let framing-from = c .before .before .before .before .before .before .before .framing-from in
     let refusal = c .before .before .before .before .before .refusal in
     promised s table _ (λ i h. omega (arith, bytes .given i))
-    (by-framing s table _ (if1 .left) (read-entries .last .1 .0) (read-entries .ensures .kept) _ _ (framing-refused s _ (framing-from .ensures) _ (refusal .given .1)) (c .before .before .refuse2 .ensures))
+    (by-framing s table _ (if1 .left) (read-entries .last .1 .0) (read-entries .ensures .kept) _ _ (framing-refused (read-entries .ensures .walked) _ (framing-from .ensures) _ (refusal .given .1)) (c .before .before .refuse2 .ensures))
 
 same-length-3 : tie.Need-same-length-3
 same-length-3 c = search needs
@@ -68,7 +68,7 @@ returns-3 c =
     let framing-from = c .before .before .before .before .before .before .before .before .framing-from in
     let enum-told = c .before .before .before .before .before .before .enum-told in
     promised s table _ (λ i h. omega (arith, bytes .given i))
-    (by-entries s table _ (if1 .left) _ _ (read-entries .ensures .reads _ (framing-whole s _ (framing-from .ensures) _ (enum-told .given .1))) (c .before .before .answer .ensures))
+    (by-entries s table _ (if1 .left) _ _ (read-entries .ensures .reads _ (framing-whole (read-entries .ensures .walked) _ (framing-from .ensures) _ (enum-told .given .1))) (c .before .before .answer .ensures))
 
 pub decode-entities-spec : {M : Type 1} → statement M
 decode-entities-spec =

@@ -1,6 +1,7 @@
 -- From entry to entry, as long as whole ones stand there.
 use Rattle.section.proofs.Entries.{Come, come-start, come-length, entry-fits, few-entities, leads, come-end}
-use Rattle.section.specs.Entry.{stage, staged, entryEnd}
+use Rattle.framing.specs.Places.{entryEnd}
+use Rattle.section.specs.Entry.{stage, staged}
 use Rattle.leaf.specs.declared.Cursor.{Cursor}
 use Rattle.leaf.specs.State.{readState}
 use denote.Ref.{now}

@@ -1,6 +1,6 @@
 -- The tests that come first, or one entry.
 use Rattle.section.proofs.Next.{entry-refused, entry-too-long, entry-too-many, entry-none, entry-some}
-use Rattle.section.proofs.Entries.{whole-here}
+use Rattle.framing.proofs.Entries.{whole-here}
 use Rattle.section.specs.Entry.{staged}
 use native.Mathlib.Omega.{arith}
 use mathlib.Core.Path.{sym, _∙_}

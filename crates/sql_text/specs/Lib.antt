@@ -1,0 +1,3 @@
+pub mod SqlText
+pub mod Theorems
+pub mod Private

@@ -1,18 +1,14 @@
 -- Bytes that are compared one after the other.
 use Prim.Native.Nat.{ℕ, _+_, _≤_, _<_}
-use native.Mathlib.Numerals.{add-one}
 use native.Mathlib.Omega.{arith}
 use mathlib.Core.Bool.{true, false, and-eq-true-iff}
 use mathlib.Core.List.{List, [], _∷_}
 use mathlib.Core.Path.{_≡_, refl, ap}
 use lib.ListN.{length, getD, drop, drop-of-length-le}
-use lib.Seq.{drop-cons}
 use borrow.Author.Tests.{eq-eqb, ne-eqb, eqb-true}
+use Rattle.layout.proofs.InBytes.{byte-there}
 use Rattle.layout.proofs.BadReads.{not-true}
 use Rattle.bytes.specs.Bytes.{same}
-
-pub byte-there : (s : List ℕ) (i : ℕ) → i < length s → drop i s ≡ getD s i 0 ∷ drop (i + 1) s
-byte-there s i h = rw (add-one, drop-cons s i 0 h)
 
 pub same-sound : (x y : List ℕ) → same x y ≡ true → x ≡ y
 same-sound [] [] e = refl
@@ -27,10 +23,10 @@ same-not a b h = not-true (same a b) (λ e. h (ap length (same-sound a b e)))
 
 module _ (a b : List ℕ) (i : ℕ) where
   pub same-on : i < length a → i < length b → getD a i 0 ≡ getD b i 0 → same (drop i a) (drop i b) ≡ same (drop (i + 1) a) (drop (i + 1) b)
-  same-on h k e = rw (byte-there a i h, byte-there b i k, eq-eqb (getD a i 0) (getD b i 0) e)
+  same-on h k e = rw (byte-there a i (omega arith), byte-there b i (omega arith), eq-eqb (getD a i 0) (getD b i 0) e)
 
   pub same-differ : i < length a → i < length b → (getD a i 0 ≡ getD b i 0 → ⊥) → same (drop i a) (drop i b) ≡ false
-  same-differ h k e = rw (byte-there a i h, byte-there b i k, ne-eqb (getD a i 0) (getD b i 0) e)
+  same-differ h k e = rw (byte-there a i (omega arith), byte-there b i (omega arith), ne-eqb (getD a i 0) (getD b i 0) e)
 
   pub same-end : length a ≤ i → length b ≤ i → same (drop i a) (drop i b) ≡ true
   same-end h k = rw (drop-of-length-le a h, drop-of-length-le b k)

@@ -127,3 +127,7 @@ all-written (suc i) rest bytes out h e = absurd (omega arith)
 -- The first bytes of an answer are the digits
 pub digits-taken : (n k : ℕ) (bytes : List ℕ) → bytes ≡ decimal n ++ replicate (20 - length (decimal n)) 0 → k ≡ length (decimal n) → take k bytes ≡ decimal n
 digits-taken n k bytes e l = rw (e, l) (take-append-seam (decimal n) (replicate (20 - length (decimal n)) 0))
+
+-- And lie within its bytes
+pub digits-fit : (n k : ℕ) (bytes : List ℕ) → bytes ≡ decimal n ++ replicate (20 - length (decimal n)) 0 → k ≡ length (decimal n) → k ≤ length bytes
+digits-fit n k bytes e l = rw (e, l) (simp length-append (omega arith))

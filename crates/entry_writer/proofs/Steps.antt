@@ -12,6 +12,9 @@ use Rattle.layout.specs.Layout.{Sort, Kind, Tag, Flag, Number, Count, string}
 use Rattle.layout.specs.Written.{textSort, four, plainBytes, leafBytes, offsetAt, valueAt}
 use Rattle.layout.specs.Reading.{Outcome, ok, refuse, utf8}
 use Rattle.layout.specs.Answers.{wholeRows}
+use Rattle.table.specs.declared.Row.{Row}
+use Rattle.table.specs.Table.{rowOf}
+use Rattle.table.proofs.Rows.{offset-there, value-there}
 use Rattle.entry_writer.specs.declared.EntryWriter.{EntryWriter}
 use Rattle.entry_writer.specs.Rows.{isRow, textIn, staysAt}
 use Rattle.entry_writer.specs.State.{stoppedWriter, spoiled, past, arrivePlain, pastText, arriveText, unlessRefused}
@@ -51,18 +54,36 @@ module _ (rows : List ℕ) (w : EntryWriter) (z : w .refusal ≡ 0) (r : EntryWr
   text-none text e h q = step-of w _ _ z (rw (← e, not-true t h) q)
 
 -- The number in a row of the sort
-module _ (rows : List ℕ) (w : EntryWriter) (z : w .refusal ≡ 0) (size sort bound : ℕ) (t : Bool) (e : t ≡ isRow rows (w .row) sort) (h : not t ≡ false) (n : ℕ) (q : n ≡ valueAt rows (w .row)) where
-  pub number-large : bound ≤ n → (r : EntryWriter) → r ≡ stoppedWriter w → r ≡ unlessRefused (takeNumber size (numberFrom rows sort bound (w .row)) w) w
-  number-large k r s = step-of w _ _ z (rw (← e, not-false t h, ← q, le-ltb n bound k) s)
+module _ (rows : List ℕ) (w : EntryWriter) (z : w .refusal ≡ 0) (size sort bound : ℕ) (t : Bool) (e : t ≡ isRow rows (w .row) sort) (h : not t ≡ false) (row : Row) (g : row ≡ rowOf rows (w .row)) where
+  number-is : row .value ≡ valueAt rows (w .row)
+  number-is = value-there rows (w .row) (row-inside rows (w .row) sort t e h) g
 
-  pub number-taken : n < bound → (r : EntryWriter) → r ≡ past n size w → r ≡ unlessRefused (takeNumber size (numberFrom rows sort bound (w .row)) w) w
-  number-taken k r s = step-of w _ _ z (rw (← e, not-false t h, ← q, lt-ltb n bound k) s)
+  pub number-large : bound ≤ row .value → (r : EntryWriter) → r ≡ stoppedWriter w → r ≡ unlessRefused (takeNumber size (numberFrom rows sort bound (w .row)) w) w
+  number-large k r s = step-of w _ _ z (rw (← e, not-false t h, ← number-is, le-ltb (row .value) bound k) s)
+
+  pub number-taken : row .value < bound → (r : EntryWriter) → r ≡ past (row .value) size w → r ≡ unlessRefused (takeNumber size (numberFrom rows sort bound (w .row)) w) w
+  number-taken k r s = step-of w _ _ z (rw (← e, not-false t h, ← number-is, lt-ltb (row .value) bound k) s)
 
 -- The text of a row
-module _ (rows text : List ℕ) (w : EntryWriter) (z : w .refusal ≡ 0) (t : Bool) (e : t ≡ isRow rows (w .row) textSort) (h : not t ≡ false) (start n : ℕ) (p : start ≡ offsetAt rows (w .row)) (q : n ≡ valueAt rows (w .row)) (s : Bool) (b : s ≡ leb (start + n) (length text)) where
+module _ (rows text : List ℕ) (w : EntryWriter) (z : w .refusal ≡ 0) (t : Bool) (e : t ≡ isRow rows (w .row) textSort) (h : not t ≡ false) (row : Row) (g : row ≡ rowOf rows (w .row)) (s : Bool) (b : s ≡ leb (row .offset + row .value) (length text)) where
+  abbrev start : ℕ
+  start = row .offset
+
+  abbrev n : ℕ
+  n = row .value
+
+  inside : w .row < wholeRows rows
+  inside = row-inside rows (w .row) textSort t e h
+
+  start-is : start ≡ offsetAt rows (w .row)
+  start-is = offset-there rows (w .row) inside g
+
+  size-is : n ≡ valueAt rows (w .row)
+  size-is = value-there rows (w .row) inside g
+
   -- It leaves the lent bytes
   pub text-outside : not s ≡ true → (r : EntryWriter) → r ≡ spoiled w → r ≡ unlessRefused (arriveText (staysAt rows text (w .row)) (textIn rows text (w .row)) w) w
-  text-outside k r y = step-of w _ _ z (rw (← e, not-false t h, ← p, ← q, ← b, not-true s k) y)
+  text-outside k r y = step-of w _ _ z (rw (← e, not-false t h, ← start-is, ← size-is, ← b, not-true s k) y)
 
   abbrev lent : List ℕ
   lent = take n (drop start text)
@@ -76,8 +97,8 @@ module _ (rows text : List ℕ) (w : EntryWriter) (z : w .refusal ≡ 0) (t : Bo
     unfolding utf8
     text-within y =
         let x : start + n - start ≡ n = omega arith in
-        let g = rw x at f in
-        step-of w _ _ z (rw (← e, not-false t h, ← p, ← q, ← b, not-false s k, ← g) y)
+        let v = rw x at f in
+        step-of w _ _ z (rw (← e, not-false t h, ← start-is, ← size-is, ← b, not-false s k, ← v) y)
 
     -- And is bad
     pub text-bad : not u ≡ true → r ≡ spoiled w → r ≡ unlessRefused (arriveText (staysAt rows text (w .row)) (textIn rows text (w .row)) w) w

@@ -9,7 +9,7 @@ use lib.Dec.{eqb}
 use lib.ListN.{length, getD, drop, drop-of-length-le}
 use borrow.Author.Tests.{ne-eqb}
 use Rattle.framing.specs.Framing.{allZero}
-use Rattle.bytes.proofs.Compared.{byte-there}
+use Rattle.layout.proofs.InBytes.{byte-there}
 
 -- Zeros, by the bits that bytes have in common
 or-zero : (a b : ℕ) → eqb (bitOr a b) 0 ≡ (eqb a 0 && eqb b 0)
@@ -24,7 +24,7 @@ zeros-and false b c d e = rw e
 
 module _ (s : List ℕ) (i : ℕ) where
   pub zeros-on : (z : Bool) (bits : ℕ) → z ≡ (eqb bits 0 && allZero (drop i s)) → i < length s → z ≡ (eqb (bitOr bits (getD s i 0)) 0 && allZero (drop (i + 1) s))
-  zeros-on z bits e h = e ∙ ap (λ (l : List ℕ). eqb bits 0 && allZero l) (byte-there s i h) ∙ zeros-and (eqb bits 0) (eqb (getD s i 0) 0) (allZero (drop (i + 1) s)) (eqb (bitOr bits (getD s i 0)) 0) (or-zero bits (getD s i 0))
+  zeros-on z bits e h = e ∙ ap (λ (l : List ℕ). eqb bits 0 && allZero l) (byte-there s i (omega arith)) ∙ zeros-and (eqb bits 0) (eqb (getD s i 0) 0) (allZero (drop (i + 1) s)) (eqb (bitOr bits (getD s i 0)) 0) (or-zero bits (getD s i 0))
 
   pub zero-end : length s ≤ i → allZero (drop i s) ≡ true
   zero-end h = rw (drop-of-length-le s h)

@@ -10,11 +10,11 @@ use lib.ListN.{length, getD, drop, drop-of-length-le}
 use Rattle.layout.specs.Written.{four}
 use Rattle.layout.specs.Reading.{numberAt}
 use Rattle.layout.specs.Theorems.{Bytes}
-use Rattle.layout.proofs.InBytes.{four-sound}
+use Rattle.layout.proofs.InBytes.{byte-there, four-sound}
 use Rattle.layout.proofs.BadReads.{not-true}
 use Rattle.bytes.specs.Bytes.{numberOr0, same}
 use Rattle.bytes.proofs.Number.{number-there}
-use Rattle.bytes.proofs.Compared.{byte-there, same-sound, same-not}
+use Rattle.bytes.proofs.Compared.{same-sound, same-not}
 use Rattle.framing.specs.Entries.{sentinelBytes}
 
 abbrev first : ℕ

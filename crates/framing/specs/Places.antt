@@ -20,6 +20,6 @@ unfoldable pub skipped : ℕ → List ℕ → (place : ℕ) → ℕ
 skipped zero s at = at
 skipped (suc k) s at = cond (sentinelAt s at) (skipped k s (entryEnd s at)) at
 
--- Past all of them. There are fewer than bytes
+-- Past all of them. There are no more of them than bytes
 unfoldable pub pastSentinels : List ℕ → (place : ℕ) → ℕ
 pastSentinels s at = skipped (suc (length s)) s at

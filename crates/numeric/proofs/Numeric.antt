@@ -6,7 +6,6 @@ use mathlib.Core.List.{List, [], _++_}
 use mathlib.Core.Path.{_≡_, refl, sym, ap, _∙_}
 use lib.ListN.{length, take, drop, replicate, length-append, length-replicate}
 use lib.Seq.{take-append-seam, drop-append-add}
-use Rattle.decimal.specs.Decimal.{decimal}
 use Rattle.paste.specs.Pasted.{pasted}
 use Rattle.paste.proofs.Pasted.{pasted-fits}
 use Rattle.numeric.specs.declared.NumericSql.{NumericSql}
@@ -42,10 +41,6 @@ held-first {bytes} {n} x k e = held {text = []} {bytes = replicate numericSize 0
 pub record-held : {text bytes : List ℕ} {n : ℕ} → Held text bytes n → _≡_ {A = NumericSql} (record { bytes = bytes; len = n }) (numericSql text)
 unfolding numericSql
 record-held h = rw (h .holds, h .size)
-
--- The digits of a number lie within the bytes of the record that holds them
-pub digits-fit : (n k : ℕ) (bytes : List ℕ) → bytes ≡ decimal n ++ replicate (20 - length (decimal n)) 0 → k ≡ length (decimal n) → k ≤ length bytes
-digits-fit n k bytes e l = rw (e, l) (simp length-append (omega arith))
 
 -- A record's text, and its place in a buffer
 module _ (text : List ℕ) (x : NumericSql) (e : x ≡ numericSql text) where

@@ -3,10 +3,10 @@ use Prim.Native.Nat.{ℕ}
 use native.Mathlib.Omega.{arith}
 use mathlib.Core.List.{List}
 use mathlib.Core.Path.{sym, ap, _∙_}
-use lib.ListN.{length-take, length}
+use lib.ListN.{length}
 use borrow.Author.Needs.{needs}
 use Rattle.listing.specs.Private.{place, putAll}
-use Rattle.decimal.proofs.Numeral.{digits-taken, most-64}
+use Rattle.decimal.proofs.Numeral.{digits-taken, digits-fit, most-64}
 use Rattle.listing.proofs.put_decimal.Statement.{statement}
 use Rattle.listing.proofs.put_decimal.Tie as tie
 
@@ -14,7 +14,7 @@ decimal-requires : tie.Need-decimal-requires
 decimal-requires c κs = search needs
 
 array-share-prefix-bytes : tie.Need-array-share-prefix-bytes
-array-share-prefix-bytes c = let r = c .before .before .decimal .result in let e = c .before .before .decimal .ensures in omega (arith, e .1, ap length (digits-taken _ _ _ (e .0) (e .1)), length-take (r .len) (r .bytes))
+array-share-prefix-bytes c = let e = c .before .before .decimal .ensures in digits-fit _ _ _ (e .0) (e .1)
 
 slice-aggregate-put : tie.Need-slice-aggregate-put
 slice-aggregate-put c = let e = c .before .before .before .decimal .ensures in e .1 ∙ sym (ap length (digits-taken _ _ _ (e .0) (e .1)))

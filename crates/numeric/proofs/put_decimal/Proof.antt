@@ -1,8 +1,7 @@
 -- The digits that the callee holds are those of n.
 use native.Mathlib.Omega.{arith}
 use borrow.Author.Needs.{needs}
-use Rattle.numeric.proofs.Numeric.{digits-fit}
-use Rattle.decimal.proofs.Numeral.{digits-taken, most-32}
+use Rattle.decimal.proofs.Numeral.{digits-taken, digits-fit, most-32}
 use Rattle.numeric.proofs.put_decimal.Statement.{statement}
 use Rattle.numeric.proofs.put_decimal.Tie as tie
 

@@ -1,6 +1,5 @@
 -- Refused, no such row, too large, or the number.
 use Rattle.entry_writer.proofs.Steps.{row-inside, refused-stays, number-none, number-large, number-taken}
-use Rattle.table.proofs.Rows.{value-there}
 use denote.Ref.{now}
 use native.Mathlib.Omega.{arith}
 use borrow.Author.Needs.{needs}
@@ -35,8 +34,7 @@ returns-3 c =
     let args = c .before .before .before .before .before .before .before .before .before .args in
     let if1 = c .before .before .before .before .before .before .if1 in
     let is-row = c .before .before .before .before .before .is-row in
-    let value = value-there (now (args .rows)) (args .self .row) (row-inside (now (args .rows)) (args .self .row) (args .sort) _ (is-row .ensures) (c .before .before .before .before .if2 .left)) (c .before .before .before .row-at .ensures) in
-    number-large (now (args .rows)) (args .self) (if1 .left) (args .size) (args .sort) (args .bound) _ (is-row .ensures) (c .before .before .before .before .if2 .left) _ value (c .before .if3 .taken) _ (c .stop2 .ensures)
+    number-large (now (args .rows)) (args .self) (if1 .left) (args .size) (args .sort) (args .bound) _ (is-row .ensures) (c .before .before .before .before .if2 .left) _ (c .before .before .before .row-at .ensures) (c .before .if3 .taken) _ (c .stop2 .ensures)
 
 past-requires : tie.Need-past-requires
 past-requires c κs =
@@ -48,8 +46,7 @@ returns-4 c =
     let args = c .before .before .before .before .before .before .before .before .before .args in
     let if1 = c .before .before .before .before .before .before .if1 in
     let is-row = c .before .before .before .before .before .is-row in
-    let value = value-there (now (args .rows)) (args .self .row) (row-inside (now (args .rows)) (args .self .row) (args .sort) _ (is-row .ensures) (c .before .before .before .before .if2 .left)) (c .before .before .before .row-at .ensures) in
-    number-taken (now (args .rows)) (args .self) (if1 .left) (args .size) (args .sort) (args .bound) _ (is-row .ensures) (c .before .before .before .before .if2 .left) _ value (c .before .if3 .left) _ (c .past .ensures)
+    number-taken (now (args .rows)) (args .self) (if1 .left) (args .size) (args .sort) (args .bound) _ (is-row .ensures) (c .before .before .before .before .if2 .left) _ (c .before .before .before .row-at .ensures) (c .before .if3 .left) _ (c .past .ensures)
 
 pub number-spec : {M : Type 1} → statement M
 number-spec =

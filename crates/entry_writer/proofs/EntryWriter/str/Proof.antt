@@ -2,7 +2,6 @@
 use Rattle.entry_writer.proofs.Row.{stays-within}
 use Rattle.entry_writer.proofs.Steps.{row-inside, refused-stays, text-none, text-outside, text-bad, text-good}
 use Rattle.entry_writer.specs.State.{consumeText}
-use Rattle.table.proofs.Rows.{offset-there, value-there}
 use Rattle.layout.specs.Machine.{drive}
 use denote.Ref.{now}
 use lib.ListN.{length}
@@ -52,12 +51,9 @@ returns-3 c =
     let args = c .before .before .before .before .before .before .before .before .before .before .before .before .args in
     let is-row = c .before .before .before .before .before .before .before .is-row in
     let if2 = c .before .before .before .before .before .before .if2 in
-    let here = row-inside (now (args .rows)) (args .self .row) 6 _ (is-row .ensures) (if2 .left) in
     let row-at = c .before .before .before .before .before .row-at in
-    let start = offset-there (now (args .rows)) (args .self .row) here (row-at .ensures) in
-    let size = value-there (now (args .rows)) (args .self .row) here (row-at .ensures) in
     let if1 = c .before .before .before .before .before .before .before .before .if1 in
-    text-outside (now (args .rows)) (now (args .text)) (args .self) (if1 .left) _ (is-row .ensures) (if2 .left) _ _ start size _ (c .before .before .stays .ensures) (c .before .if3 .taken) _ (c .spoiled .ensures)
+    text-outside (now (args .rows)) (now (args .text)) (args .self) (if1 .left) _ (is-row .ensures) (if2 .left) _ (row-at .ensures) _ (c .before .before .stays .ensures) (c .before .if3 .taken) _ (c .spoiled .ensures)
 
 add-end : tie.Need-add-end
 add-end c = search needs
@@ -89,13 +85,10 @@ returns-4 c =
     let args = c .before .before .before .before .before .before .before .before .before .before .before .before .before .before .before .args in
     let is-row = c .before .before .before .before .before .before .before .before .before .before .is-row in
     let if2 = c .before .before .before .before .before .before .before .before .before .if2 in
-    let here = row-inside (now (args .rows)) (args .self .row) 6 _ (is-row .ensures) (if2 .left) in
     let row-at = c .before .before .before .before .before .before .before .before .row-at in
-    let start = offset-there (now (args .rows)) (args .self .row) here (row-at .ensures) in
-    let size = value-there (now (args .rows)) (args .self .row) here (row-at .ensures) in
     let if1 = c .before .before .before .before .before .before .before .before .before .before .before .if1 in
     let stays = c .before .before .before .before .before .stays in
-    text-bad (now (args .rows)) (now (args .text)) (args .self) (if1 .left) _ (is-row .ensures) (if2 .left) _ _ start size _ (stays .ensures) (c .before .before .before .before .if3 .left) _ (c .before .before .is-utf8 .ensures .0) _ (c .before .if4 .taken) (c .spoiled2 .ensures)
+    text-bad (now (args .rows)) (now (args .text)) (args .self) (if1 .left) _ (is-row .ensures) (if2 .left) _ (row-at .ensures) _ (stays .ensures) (c .before .before .before .before .if3 .left) _ (c .before .before .is-utf8 .ensures .0) _ (c .before .if4 .taken) (c .spoiled2 .ensures)
 
 add-past : tie.Need-add-past
 add-past c = search needs
@@ -113,13 +106,10 @@ returns-5 c =
     let args = c .before .before .before .before .before .before .before .before .before .before .before .before .before .before .before .args in
     let is-row = c .before .before .before .before .before .before .before .before .before .before .is-row in
     let if2 = c .before .before .before .before .before .before .before .before .before .if2 in
-    let here = row-inside (now (args .rows)) (args .self .row) 6 _ (is-row .ensures) (if2 .left) in
     let row-at = c .before .before .before .before .before .before .before .before .row-at in
-    let start = offset-there (now (args .rows)) (args .self .row) here (row-at .ensures) in
-    let size = value-there (now (args .rows)) (args .self .row) here (row-at .ensures) in
     let if1 = c .before .before .before .before .before .before .before .before .before .before .before .if1 in
     let stays = c .before .before .before .before .before .stays in
-    text-good (now (args .rows)) (now (args .text)) (args .self) (if1 .left) _ (is-row .ensures) (if2 .left) _ _ start size _ (stays .ensures) (c .before .before .before .before .if3 .left) _ (c .before .before .is-utf8 .ensures .0) _ (c .before .if4 .left) (c .past .ensures)
+    text-good (now (args .rows)) (now (args .text)) (args .self) (if1 .left) _ (is-row .ensures) (if2 .left) _ (row-at .ensures) _ (stays .ensures) (c .before .before .before .before .if3 .left) _ (c .before .before .is-utf8 .ensures .0) _ (c .before .if4 .left) (c .past .ensures)
 
 pub str-spec : {M : Type 1} → statement M
 str-spec =

@@ -1,16 +1,18 @@
-//! The reading of a section beside the Rust's `decode_entities`, in one process and by turns. Built and run by
-//! `compare/bench`; with `--paths` it also has the path report on 100,000 entities, which takes a minute or more.
+//! The reading of a section beside the Rust's `decode_entities`, in one process and by turns; then the time of the path report,
+//! on 10,000 entities at most, or with `--paths` on as many as fit a section. Built and run by `compare/bench`.
 mod common;
-mod ffi;
 
 use common::{median, Random};
-use ffi::{path_pairs, read, What};
 use pgrx_sql_entity_graph::section::decode_entities;
+use pgrxsc::{path_pairs, read_section, Refusal, LIMIT, ROW_WIDTH};
 use std::hint::black_box;
 use std::time::Instant;
 
 const MIB: usize = 1 << 20;
 const TURNS: usize = 31;
+
+/// How often each path report is made.
+const PATH_TURNS: usize = 3;
 
 /// The bytes of one entry, part after part.
 #[derive(Default)]
@@ -86,7 +88,7 @@ fn function(i: usize) -> Entry {
         .tags(&[1, 0]) // to_sql_config
 }
 
-/// A trigger, which is short, so that 100,000 fit a section.
+/// A trigger as the macros write it. It is short, so that 100,000 fit a section.
 fn trigger(i: usize) -> Entry {
     let name = format!("note_exercise_{i:06}");
     Entry::default()
@@ -97,6 +99,11 @@ fn trigger(i: usize) -> Entry {
         .text(b"rehab::exercise")
         .text(format!("rehab::exercise::{name}").as_bytes())
         .tags(&[1, 0]) // to_sql_config
+}
+
+/// A trigger with a full_path and no other text. No entry with a full_path is shorter: it has 27 bytes and those of the path.
+fn path_alone(path: impl AsRef<[u8]>) -> Entry {
+    Entry::default().tag(9).text(b"").text(b"").number(0).text(b"").text(path.as_ref()).tags(&[1, 0])
 }
 
 /// A schema with a module_path alone.
@@ -129,18 +136,23 @@ fn milliseconds<T>(work: impl FnOnce() -> T) -> (f64, T) {
     (start.elapsed().as_secs_f64() * 1e3, result)
 }
 
+/// The numbers of entities and rows.
+fn read(section: &[u8], table: &mut [u32]) -> Result<(usize, usize), Refusal> {
+    read_section(section, table).map(|reading| (reading.entities().len(), reading.rows().len()))
+}
+
 /// Both on a section by turns of one reading, or of as many as have 1 MiB. What the Rust has made is dropped outside of its time.
 /// Returns the median times, ours and the Rust's.
 fn race(name: &str, section: &[u8], goal: f64) -> (f64, f64) {
     let entities = decode_entities(section).expect("accepted").len();
-    let mut table = vec![0; ffi::ROW_WIDTH * section.len()];
-    let [0, 0, count, rows] = read(What::Section, section, &mut table) else { panic!("{name}: refused") };
-    assert_eq!(count as usize, entities, "{name}: entities");
-    table.truncate(ffi::ROW_WIDTH * rows as usize);
+    let mut table = vec![0; ROW_WIDTH * section.len()];
+    let (count, rows) = read(section, &mut table).expect("accepted");
+    assert_eq!(count, entities, "{name}: entities");
+    table.truncate(ROW_WIDTH * rows);
     let readings = (MIB / section.len()).max(1);
     let mut our_reading = || {
-        let (time, answer) = milliseconds(|| read(What::Section, black_box(section), &mut table));
-        assert_eq!(answer, [0, 0, count, rows]);
+        let (time, answer) = milliseconds(|| read(black_box(section), &mut table));
+        assert_eq!(answer, Ok((count, rows)));
         time
     };
     let their_reading = || {
@@ -172,11 +184,11 @@ fn growth() {
     let mut small_tables = vec![vec![0; MIB]; 16];
     let mut times = [const { Vec::new() }; 4];
     for _ in 0..TURNS {
-        let (time, answer) = milliseconds(|| read(What::Section, &large, &mut large_table));
-        assert_eq!(answer[0], 0);
+        let (time, answer) = milliseconds(|| read(&large, &mut large_table));
+        assert!(answer.is_ok());
         times[0].push(time);
         let pairs = small.iter().zip(&mut small_tables);
-        times[1].push(pairs.map(|(bytes, table)| milliseconds(|| read(What::Section, bytes, table)).0).sum());
+        times[1].push(pairs.map(|(bytes, table)| milliseconds(|| read(bytes, table)).0).sum());
         times[2].push(milliseconds(|| decode_entities(&large)).0);
         times[3].push(small.iter().map(|bytes| milliseconds(|| decode_entities(bytes)).0).sum());
     }
@@ -188,9 +200,73 @@ fn growth() {
     );
 }
 
+/// Prints the time of the path report on `count` entries, of which `pairs` pairs have the same full_path.
+fn report(name: &str, count: usize, pairs: u64, entry: impl Fn(usize) -> Entry) {
+    let mut section = Vec::new();
+    (0..count).for_each(|i| entry(i).add_to(&mut section));
+    assert!(section.len() <= LIMIT, "{name}: {} bytes", section.len());
+    let report = || {
+        let (time, answer) = milliseconds(|| path_pairs(black_box(&section)));
+        assert_eq!(answer, Ok(pairs), "{name}: pairs");
+        time
+    };
+    let time = median((0..PATH_TURNS).map(|_| report()).collect());
+    println!("{name:48} {:9} {count:8} {pairs:13} {time:9.1}", section.len());
+}
+
+/// The `i`th text of `N` digits of base 64, in the order of their bytes.
+fn nth<const N: usize>(i: usize) -> [u8; N] {
+    std::array::from_fn(|at| b'0' + (i >> (6 * (N - 1 - at)) & 63) as u8)
+}
+
+/// The same texts in no order, each once.
+fn scattered<const N: usize>(i: usize) -> [u8; N] {
+    nth(i * 0x9e_3779 % 64usize.pow(N as u32))
+}
+
+/// How many pairs there are among `n`.
+fn pairs_of(n: usize) -> u64 {
+    (n * n.saturating_sub(1) / 2) as u64
+}
+
+/// The path report on triggers, with work that the crate lends.
+fn paths(all: bool) {
+    println!("\nThe path report on triggers: milliseconds, medians of {PATH_TURNS} turns.\n");
+    println!("{:48} {:>9} {:>8} {:>13} {:>9}", "full paths", "bytes", "entities", "pairs", "here");
+    let most = if all { 100_000 } else { 10_000 };
+    for count in [1_000, 10_000, 100_000].into_iter().filter(|&count| count <= most) {
+        report("all different, 37 bytes each", count, 0, trigger);
+    }
+    if !all {
+        return;
+    }
+    // 600,000 entries leave 577,216 bytes for their paths: 8 in 25 have three each, the others none
+    report("192,000 different of 3 bytes, the others empty", 600_000, pairs_of(408_000), |i| match i % 25 {
+        k @ 0..8 => path_alone(scattered::<3>(i / 25 * 8 + k)),
+        _ => path_alone(b""),
+    });
+    // As many as fit, in orders that may be hard for a sort
+    let (different, equal) = (LIMIT / 31, LIMIT / 27);
+    report("all different, in no order, 4 bytes each", different, 0, |i| path_alone(scattered::<4>(i)));
+    report("all different, rising, 4 bytes each", different, 0, |i| path_alone(nth::<4>(i)));
+    report("all different, falling, 4 bytes each", different, 0, |i| path_alone(nth::<4>(different - 1 - i)));
+    report("all equal, empty", equal, pairs_of(equal), |_| path_alone(b""));
+    // Long texts whose first bytes are the same
+    let common = "rehab::exercise::".repeat(15)[..250].to_string();
+    let after = |len: usize, end: [u8; 4]| path_alone([&common.as_bytes()[..len], &end].concat());
+    let long = |end: [u8; 4]| after(250, end);
+    report("all different after 60 bytes, in no order", 184_000, 0, |i| after(60, scattered(i)));
+    report("all different after 250 bytes, in no order", 58_000, 0, |i| long(scattered(i)));
+    report("all different after 250 bytes, rising", 58_000, 0, |i| long(nth(i)));
+    report("all different after 250 bytes, falling", 58_000, 0, |i| long(nth(57_999 - i)));
+    report("all equal, 254 bytes each", 58_000, pairs_of(58_000), |_| long(*b"note"));
+}
+
 fn main() {
     let mut random = Random(3629);
-    println!("Milliseconds, medians of {TURNS} turns; the ratio of the medians, and the median of the turns' ratios.\n");
+    println!(
+        "Milliseconds, medians of {TURNS} turns; the ratio of the medians, and the median of the turns' ratios.\n"
+    );
     println!(
         "{:32} {:>9} {:>8} {:>8} {:>9} {:>9} {:>8} {:>8} {:>5}",
         "a section of", "bytes", "entities", "rows", "here", "the Rust", "ratio", "by turns", "goal"
@@ -206,16 +282,11 @@ fn main() {
     race("functions, 64 KiB", &entries(MIB / 16, function), 4.0);
     let small = race("functions, 1 MiB", &entries(MIB, function), 4.0);
     let large = race("functions, 16 MiB", &entries(16 * MIB, function), 4.0);
-    println!("\n16 times the bytes take {:.2} times as long here, {:.2} times in the Rust.", large.0 / small.0, large.1 / small.1);
+    println!(
+        "\n16 times the bytes take {:.2} times as long here, {:.2} times in the Rust.",
+        large.0 / small.0,
+        large.1 / small.1
+    );
     growth();
-
-    println!("\nThe path report on triggers, no two with the same path:\n");
-    let most = if std::env::args().any(|word| word == "--paths") { 100_000 } else { 10_000 };
-    for count in [1_000, 10_000, 100_000].into_iter().filter(|&count| count <= most) {
-        let mut section = Vec::new();
-        (0..count).for_each(|i| trigger(i).add_to(&mut section));
-        let (time, (pairs, answer)) = milliseconds(|| path_pairs(&section));
-        assert_eq!((pairs, answer), (0, [0; 4]));
-        println!("{count:8} entities, {:9} bytes: {time:10.1} ms", section.len());
-    }
+    paths(std::env::args().any(|word| word == "--paths"));
 }

@@ -1,10 +1,11 @@
 //! Bytes made from the layouts, whole and damaged.
 use crate::common::Random;
-use crate::ffi::{What, COUNT, NUMBER, TEXT};
 use crate::layouts::{
     case, four, Cases, Layout, Parts, Reading, ARGUMENT_SQL, AS, CUSTOM_SQL, ENTITY, MAPPING, METADATA, NUMERIC,
     SENTINEL,
 };
+use crate::what::What;
+use pgrxsc::{Row, Sort};
 
 pub struct Generator {
     pub random: Random,
@@ -16,7 +17,7 @@ pub struct Generator {
     pub text_len: usize,
     /// Whether a declaration's result is any argument-side result, which may be well made and still refused.
     any_declared: bool,
-    /// The list of that number among those made from now on has so many items.
+    /// Which of the lists made from now on, counted from 0, has how many items.
     pub many: Option<(usize, u32)>,
 }
 
@@ -251,19 +252,19 @@ impl Generator {
             }
             _ if whole.rows.is_empty() => bytes[at] = self.byte(),
             _ => {
-                let row = self.random.below(whole.rows.len() / 3) * 3;
-                self.damage_leaf(&whole.rows[row..row + 3], bytes);
+                let row = whole.rows[self.random.below(whole.rows.len())];
+                self.damage_leaf(row, bytes);
             }
         }
     }
 
     /// Damages the leaf of a row.
-    fn damage_leaf(&mut self, row: &[u32], bytes: &mut [u8]) {
-        let (offset, value) = (row[1] as usize, row[2] as usize);
-        match row[0] {
-            TEXT if value > 0 && self.one_in(2) => bytes[offset + self.random.below(value)] = self.byte(),
-            TEXT => self.alter(bytes, offset - 4),
-            NUMBER | COUNT => self.alter(bytes, offset),
+    fn damage_leaf(&mut self, row: Row, bytes: &mut [u8]) {
+        let (offset, value) = (row.offset as usize, row.value as usize);
+        match row.sort {
+            Sort::Text if value > 0 && self.one_in(2) => bytes[offset + self.random.below(value)] = self.byte(),
+            Sort::Text => self.alter(bytes, offset - 4),
+            Sort::Number | Sort::Count => self.alter(bytes, offset),
             _ => {
                 let most = [3, 7, 20][self.random.below(3)];
                 bytes[offset] = self.random.below(most) as u8;
@@ -271,7 +272,7 @@ impl Generator {
         }
     }
 
-    /// Alters the number in the four bytes from there.
+    /// Alters the number in the four bytes from an offset on.
     fn alter(&mut self, bytes: &mut [u8], at: usize) {
         let number = four(bytes, at);
         let number = match self.random.below(6) {

@@ -1,6 +1,7 @@
-//! The layouts of document 01 as values, and a reading by them: an answer of its own, with number, place and rows. It also
+//! The layouts of docs/FORMAT.md as values, and a reading by them: an answer of its own, with number, place and rows. It also
 //! tells the largest count for which the Rust reserves memory.
-use crate::ffi::{What, COUNT, FLAG, KIND, LIMIT, NUMBER, TAG, TEXT};
+use crate::what::What;
+use pgrxsc::{Refusal, Row, Sort, LIMIT};
 use Layout::*;
 
 pub type Parts = &'static [Layout];
@@ -24,7 +25,7 @@ pub enum Layout {
     Named(Cases),
     /// A flag, then the parts if it is 1.
     May(Parts),
-    /// A count, and so many times the parts.
+    /// A count n, then n times the parts.
     List(Parts),
     /// An argument-side result, which must be a mapping As or Numeric.
     Declared,
@@ -137,14 +138,11 @@ pub const ENTITY: Layout = Kind(&[
 
 pub const SENTINEL: &[u8] = b"\x00\x04\x00\x00\x00pgrx";
 
-/// A refusal's number and place.
-pub type Refusal = (u64, u64);
-
 /// A reading as far as it went.
 #[derive(Default)]
 pub struct Reading {
-    pub rows: Vec<u32>,
-    pub entities: u64,
+    pub rows: Vec<Row>,
+    pub entities: usize,
     pub sentinels: usize,
     pub padding: usize,
     /// The largest count that was read.
@@ -168,7 +166,7 @@ impl Reading {
             ..Reading::default()
         };
         if bytes.len() > LIMIT {
-            return Err((1, 0));
+            return Err(Refusal::new(1, 0));
         }
         match what {
             What::Section => self.section(bytes),
@@ -181,10 +179,10 @@ impl Reading {
     /// Reads the mapping at an offset. Bytes may follow it.
     pub fn mapping_at(&mut self, bytes: &[u8], offset: u32) -> Result<(), Refusal> {
         if bytes.len() > LIMIT {
-            return Err((1, 0));
+            return Err(Refusal::new(1, 0));
         }
         if offset as usize > bytes.len() {
-            return Err((5, offset.into()));
+            return Err(Refusal::new(5, offset as usize));
         }
         (self.at, self.end) = (offset as usize, bytes.len());
         self.part(&MAPPING, bytes)
@@ -193,17 +191,16 @@ impl Reading {
     fn section(&mut self, bytes: &[u8]) -> Result<(), Refusal> {
         let mut boundary = 0;
         while bytes[boundary..].iter().any(|&byte| byte != 0) {
-            let place = boundary as u64;
             let left = bytes.len() - boundary;
             if left < 4 {
-                return Err((2, place));
+                return Err(Refusal::new(2, boundary));
             }
             let len = four(bytes, boundary) as usize;
             if len == 0 {
-                return Err((3, place));
+                return Err(Refusal::new(3, boundary));
             }
             if len > left - 4 {
-                return Err((4, place));
+                return Err(Refusal::new(4, boundary));
             }
             self.entries.push(boundary);
             boundary += 4 + len;
@@ -230,7 +227,7 @@ impl Reading {
         (self.at, self.end) = (start, end);
         self.part(layout, bytes)?;
         if self.at < self.end {
-            return Err((12, self.at as u64));
+            return Err(Refusal::new(12, self.at));
         }
         Ok(())
     }
@@ -243,7 +240,7 @@ impl Reading {
         let start = self.at;
         match layout {
             Flag => self.flag(bytes).map(drop),
-            Number => self.number(NUMBER, bytes).map(drop),
+            Number => self.number(Sort::Number, bytes).map(drop),
             Text => self.text(bytes),
             Numeric => {
                 self.numerics += 1;
@@ -251,24 +248,24 @@ impl Reading {
             }
             All(parts) => self.parts(parts, bytes),
             Kind(cases) => {
-                let kind = self.byte(KIND, bytes)?;
-                self.parts(case(cases, kind).ok_or((8, start as u64))?, bytes)
+                let kind = self.byte(Sort::Kind, bytes)?;
+                self.parts(case(cases, kind).ok_or(Refusal::new(8, start))?, bytes)
             }
             Tag(cases) => {
-                let tag = self.byte(TAG, bytes)?;
-                self.parts(case(cases, tag).ok_or((9, start as u64))?, bytes)
+                let tag = self.byte(Sort::Tag, bytes)?;
+                self.parts(case(cases, tag).ok_or(Refusal::new(9, start))?, bytes)
             }
             Named(cases) => {
-                let tag = self.byte(TAG, bytes)?;
+                let tag = self.byte(Sort::Tag, bytes)?;
                 self.text(bytes)?;
-                self.parts(case(cases, tag).ok_or((9, start as u64))?, bytes)
+                self.parts(case(cases, tag).ok_or(Refusal::new(9, start))?, bytes)
             }
             May(parts) => match self.flag(bytes)? {
                 true => self.parts(parts, bytes),
                 false => Ok(()),
             },
             List(parts) => {
-                let count = self.number(COUNT, bytes)?;
+                let count = self.number(Sort::Count, bytes)?;
                 self.most = self.most.max(count);
                 (0..count).try_for_each(|_| self.parts(parts, bytes))
             }
@@ -276,41 +273,41 @@ impl Reading {
                 self.part(&ARGUMENT_SQL, bytes)?;
                 match bytes[start..] {
                     [1, AS | NUMERIC, ..] => Ok(()),
-                    [1, ..] => Err((10, start as u64)),
-                    _ => Err((11, start as u64)),
+                    [1, ..] => Err(Refusal::new(10, start)),
+                    _ => Err(Refusal::new(11, start)),
                 }
             }
         }
     }
 
-    /// Takes so many bytes, and says where they begin.
+    /// Takes `len` bytes, and says where they begin.
     fn take(&mut self, len: usize) -> Result<usize, Refusal> {
         let start = self.at;
         if len > self.end - start {
-            return Err((5, start as u64));
+            return Err(Refusal::new(5, start));
         }
         self.at += len;
         Ok(start)
     }
 
-    fn byte(&mut self, sort: u32, bytes: &[u8]) -> Result<u8, Refusal> {
+    fn byte(&mut self, sort: Sort, bytes: &[u8]) -> Result<u8, Refusal> {
         let at = self.take(1)?;
-        self.rows.extend([sort, at as u32, bytes[at].into()]);
+        self.rows.push(Row::new(sort, at as u32, bytes[at].into()));
         Ok(bytes[at])
     }
 
     fn flag(&mut self, bytes: &[u8]) -> Result<bool, Refusal> {
         let start = self.at;
-        match self.byte(FLAG, bytes)? {
+        match self.byte(Sort::Flag, bytes)? {
             0 => Ok(false),
             1 => Ok(true),
-            _ => Err((6, start as u64)),
+            _ => Err(Refusal::new(6, start)),
         }
     }
 
-    fn number(&mut self, sort: u32, bytes: &[u8]) -> Result<u32, Refusal> {
+    fn number(&mut self, sort: Sort, bytes: &[u8]) -> Result<u32, Refusal> {
         let at = self.take(4)?;
-        self.rows.extend([sort, at as u32, four(bytes, at)]);
+        self.rows.push(Row::new(sort, at as u32, four(bytes, at)));
         Ok(four(bytes, at))
     }
 
@@ -319,9 +316,9 @@ impl Reading {
         let len = four(bytes, at);
         let start = self.take(len as usize)?;
         if std::str::from_utf8(&bytes[start..self.at]).is_err() {
-            return Err((7, start as u64));
+            return Err(Refusal::new(7, start));
         }
-        self.rows.extend([TEXT, start as u32, len]);
+        self.rows.push(Row::new(Sort::Text, start as u32, len));
         Ok(())
     }
 }
@@ -331,7 +328,7 @@ pub fn case(cases: Cases, tag: u8) -> Option<Parts> {
     cases.iter().find(|(first, last, _)| (*first..=*last).contains(&tag)).map(|(_, _, parts)| *parts)
 }
 
-/// The number in the four bytes from there.
+/// The number in the four bytes from an offset on.
 pub fn four(bytes: &[u8], at: usize) -> u32 {
     u32::from_le_bytes(bytes[at..at + 4].try_into().unwrap())
 }

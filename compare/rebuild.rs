@@ -1,11 +1,12 @@
 //! The Rust's objects, made from rows and the bytes that were read. No byte is looked at but through rows and the calls for
 //! texts.
 use crate::comparison::UNTOUCHED;
-use crate::ffi::{self, Row, What, COUNT, FLAG, KIND, NUMBER, ROW_WIDTH, SQL_TEXT_SIZE, TAG, TEXT};
 use crate::layouts::{ARRAY, AS, COMPOSITE, NUMERIC, SKIP};
+use crate::what::{part, sql_text, SqlText, What};
 use pgrx_sql_entity_graph::metadata::*;
 use pgrx_sql_entity_graph::section as s;
 use pgrx_sql_entity_graph::*;
+use pgrxsc::{Refusal, Row, Sort, SQL_TEXT_SIZE};
 
 /// What the Rust reads bytes as.
 #[derive(Debug, PartialEq)]
@@ -31,13 +32,13 @@ pub struct Calls {
 /// The rows of a reading, and how many of them are used up.
 struct Rows<'a, 'b> {
     bytes: &'a [u8],
-    rows: &'b [u32],
+    rows: &'b [Row],
     calls: Calls,
     used: usize,
 }
 
 /// The objects that the rows make; all rows must be used up.
-pub fn objects<'a>(what: What, bytes: &'a [u8], rows: &[u32], calls: &mut Calls) -> Built<Objects<'a>> {
+pub fn objects<'a>(what: What, bytes: &'a [u8], rows: &[Row], calls: &mut Calls) -> Built<Objects<'a>> {
     let mut rows = Rows { bytes, rows, calls: *calls, used: 0 };
     let objects = match what {
         What::Section | What::Payload => {
@@ -59,26 +60,25 @@ pub fn objects<'a>(what: What, bytes: &'a [u8], rows: &[u32], calls: &mut Calls)
 
 impl<'a, 'b> Rows<'a, 'b> {
     fn left(&self) -> usize {
-        self.rows.len() / ROW_WIDTH - self.used
+        self.rows.len() - self.used
     }
 
     /// The next row, which must be of that sort.
-    fn row(&mut self, sort: u32) -> Built<Row> {
-        let start = self.used * ROW_WIDTH;
-        let row: Row = self.rows.get(start..start + ROW_WIDTH).ok_or("a row is missing")?.try_into().unwrap();
-        if row[0] != sort {
-            return Err(format!("row {} is {row:?}, and not of sort {sort}", self.used));
+    fn row(&mut self, sort: Sort) -> Built<Row> {
+        let row = *self.rows.get(self.used).ok_or("a row is missing")?;
+        if row.sort != sort {
+            return Err(format!("row {} is {row:?}, and not a {sort:?}", self.used));
         }
         self.used += 1;
         Ok(row)
     }
 
     fn tag(&mut self) -> Built<u8> {
-        self.row(TAG)?[2].try_into().map_err(|_| "a tag above 255".to_string())
+        self.row(Sort::Tag)?.value.try_into().map_err(|_| "a tag above 255".to_string())
     }
 
     fn flag(&mut self) -> Built<bool> {
-        match self.row(FLAG)?[2] {
+        match self.row(Sort::Flag)?.value {
             0 => Ok(false),
             1 => Ok(true),
             value => Err(format!("a flag of {value}")),
@@ -86,28 +86,19 @@ impl<'a, 'b> Rows<'a, 'b> {
     }
 
     fn number(&mut self) -> Built<u32> {
-        Ok(self.row(NUMBER)?[2])
-    }
-
-    /// The part of the bytes that an answer gives.
-    fn part(&self, answer: ffi::Answer) -> Built<&'a str> {
-        let [0, 0, start, len] = answer else { return Err(format!("a part with the answer {answer:?}")) };
-        let part = start.checked_add(len).and_then(|end| self.bytes.get(start as usize..end as usize));
-        let part = part.ok_or(format!("the part {start} {len} leaves the bytes"))?;
-        std::str::from_utf8(part).map_err(|_| format!("the part {start} {len} is no text"))
+        Ok(self.row(Sort::Number)?.value)
     }
 
     fn row_text(&mut self, row: Row) -> Built<&'a str> {
         self.calls.row_texts += 1;
-        let answer = ffi::row_text(self.bytes, row);
-        if answer != [0, 0, row[1].into(), row[2].into()] {
-            return Err(format!("the text of {row:?} with the answer {answer:?}"));
+        match pgrxsc::row_text(self.bytes, row) {
+            Ok(text) if part(self.bytes, text) == (row.offset as usize, row.value as usize) => Ok(text),
+            other => Err(format!("the text of {row:?} is {other:?}")),
         }
-        self.part(answer)
     }
 
     fn text(&mut self) -> Built<&'a str> {
-        let row = self.row(TEXT)?;
+        let row = self.row(Sort::Text)?;
         self.row_text(row)
     }
 
@@ -128,38 +119,40 @@ impl<'a, 'b> Rows<'a, 'b> {
     }
 
     fn list<T>(&mut self, mut item: impl FnMut(&mut Self) -> Built<T>) -> Built<Vec<T>> {
-        let count = self.row(COUNT)?[2];
+        let count = self.row(Sort::Count)?.value;
         (0..count).map(|_| item(self)).collect()
     }
 
-    /// The SQL text of the mapping whose tag stands at that offset, what is returned with it, and the buffer.
-    fn sql_text(&self, offset: u32) -> (u32, ffi::Answer, [u8; SQL_TEXT_SIZE]) {
+    /// Where the SQL text of the mapping whose tag stands at that offset is, and the buffer.
+    fn sql_text(&self, offset: u32) -> (Result<SqlText, Refusal>, [u8; SQL_TEXT_SIZE]) {
         let mut buffer = [UNTOUCHED; SQL_TEXT_SIZE];
-        let (stored, answer) = ffi::sql_text(self.bytes, offset, &mut buffer);
-        (stored, answer, buffer)
+        (sql_text(self.bytes, offset, &mut buffer), buffer)
     }
 
     /// A mapping without SQL text: 10 at its offset, and nothing is stored.
     fn no_sql_text(&mut self, offset: u32) -> Built<()> {
         self.calls.sql_text_refusals += 1;
-        match self.sql_text(offset) {
-            (0, [10, place, 0, 0], [UNTOUCHED, ..]) if place == offset.into() => Ok(()),
-            other => Err(format!("no SQL text at {offset} with {other:?}")),
+        let answer = self.sql_text(offset);
+        match answer == (Err(Refusal::new(10, offset as usize)), [UNTOUCHED; SQL_TEXT_SIZE]) {
+            true => Ok(()),
+            false => Err(format!("no SQL text at {offset} with {answer:?}")),
         }
     }
 
     /// The SQL text of an As, by its row and by its offset in turn.
     fn sql_as(&mut self, offset: u32) -> Built<String> {
-        let row = self.row(TEXT)?;
+        let row = self.row(Sort::Text)?;
         if self.used % 2 == 0 {
             return self.row_text(row).map(String::from);
         }
         self.calls.sql_texts_in_section += 1;
-        let (stored, answer, buffer) = self.sql_text(offset);
-        if (stored, answer[2..] == [row[1].into(), row[2].into()], buffer) != (0, true, [UNTOUCHED; SQL_TEXT_SIZE]) {
-            return Err(format!("the SQL text at {offset} with {stored}, {answer:?}, {buffer:?}"));
+        let (start, len) = (row.offset as usize, row.value as usize);
+        let answer = self.sql_text(offset);
+        if answer != (Ok(SqlText::Bytes((start, len))), [UNTOUCHED; SQL_TEXT_SIZE]) {
+            return Err(format!("the SQL text at {offset} with {answer:?}"));
         }
-        self.part(answer).map(String::from)
+        let text = std::str::from_utf8(&self.bytes[start..start + len]);
+        text.map(String::from).map_err(|_| format!("the SQL text at {offset} is no text"))
     }
 
     /// The SQL text of a Numeric, whose digits must be those of the rows.
@@ -170,13 +163,13 @@ impl<'a, 'b> Rows<'a, 'b> {
             [Some(precision), Some(scale)] => vec![precision, scale],
         };
         self.calls.sql_texts_in_buffer += 1;
-        let (stored, answer, buffer) = self.sql_text(offset);
-        let (1, [0, 0, 0, len @ 0..=31]) = (stored, answer) else {
-            return Err(format!("the SQL text at {offset} with {stored}, {answer:?}"));
+        let (text, buffer) = self.sql_text(offset);
+        let Ok(SqlText::Buffer((0, len @ 0..=SQL_TEXT_SIZE))) = text else {
+            return Err(format!("the SQL text at {offset} with {text:?}"));
         };
-        let (text, behind) = buffer.split_at(len as usize);
-        if behind.iter().any(|&byte| byte != UNTOUCHED) {
-            return Err(format!("the buffer changed behind the SQL text at {offset}"));
+        let (text, after) = buffer.split_at(len);
+        if after.iter().any(|&byte| byte != UNTOUCHED) {
+            return Err(format!("the buffer changed after the SQL text at {offset}"));
         }
         let text = String::from_utf8(text.to_vec()).map_err(|_| "no text in the buffer")?;
         let digits = text.split(|c: char| !c.is_ascii_digit()).filter_map(|number| number.parse::<u32>().ok());
@@ -193,7 +186,7 @@ impl<'a, 'b> Rows<'a, 'b> {
     }
 
     fn mapping(&mut self) -> Built<SqlMapping> {
-        let [_, offset, tag] = self.row(TAG)?;
+        let Row { offset, value: tag, .. } = self.row(Sort::Tag)?;
         match tag as u8 {
             AS => self.sql_as(offset).map(SqlMapping::As),
             NUMERIC => self.sql_numeric(offset).map(SqlMapping::As),
@@ -211,7 +204,7 @@ impl<'a, 'b> Rows<'a, 'b> {
 
     /// An array's mapping. Its bytes are those of a mapping too, so its SQL text can be asked for.
     fn array_mapping(&mut self) -> Built<SqlArrayMapping> {
-        let [_, offset, tag] = self.row(TAG)?;
+        let Row { offset, value: tag, .. } = self.row(Sort::Tag)?;
         match tag as u8 {
             AS => self.sql_as(offset).map(SqlArrayMapping::As),
             NUMERIC => self.sql_numeric(offset).map(SqlArrayMapping::As),
@@ -405,11 +398,11 @@ impl<'a, 'b> Rows<'a, 'b> {
 
     fn declaration(&mut self) -> Built<SqlDeclaredEntity> {
         let kind = self.tag()?;
-        let row = self.row(TEXT)?;
+        let row = self.row(Sort::Text)?;
         let name = self.row_text(row)?.to_string();
         if kind == s::SQL_DECLARED_FUNCTION {
             self.calls.sql_names += 1;
-            let sql = self.part(ffi::sql_name(self.bytes, row))?;
+            let sql = pgrxsc::sql_name(self.bytes, row).map_err(|refusal| format!("an SQL name with {refusal:?}"))?;
             return Ok(ExtensionSql::declared_function(name, sql.to_string()));
         }
         let type_ident = self.string()?;
@@ -425,7 +418,7 @@ impl<'a, 'b> Rows<'a, 'b> {
     }
 
     fn entity(&mut self) -> Built<SqlGraphEntity<'a>> {
-        match self.row(KIND)?[2] as u8 {
+        match self.row(Sort::Kind)?.value as u8 {
             s::ENTITY_SCHEMA => self.schema().map(SqlGraphEntity::Schema),
             s::ENTITY_CUSTOM_SQL => self.custom_sql().map(SqlGraphEntity::CustomSql),
             s::ENTITY_FUNCTION => self.function().map(SqlGraphEntity::Function),

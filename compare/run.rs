@@ -3,20 +3,21 @@
 #[allow(dead_code)]
 mod common;
 mod comparison;
-mod ffi;
 mod flatten;
 mod generate;
 mod layouts;
 mod rebuild;
 mod sample;
+mod what;
 mod written;
 
 use common::Random;
 use comparison::{Class, Comparison, MOST_RESERVED};
-use ffi::{What, LIMIT, ROW_WIDTH};
 use generate::Generator;
 use layouts::{Reading, SENTINEL};
+use pgrxsc::{Row, Sort, LIMIT};
 use std::collections::{HashMap, HashSet};
+use what::What;
 
 /// Inputs by the layouts, each followed by a damaged one.
 fn generated(comparison: &mut Comparison, cases: u64, seed: u64) {
@@ -54,7 +55,7 @@ fn systematic(comparison: &mut Comparison, turns: u64, seed: u64) {
             kind => (What::Payload, generator.entity(kind as u8 - 1)),
         };
         reading.read(what, &bytes).expect("what is generated is whole");
-        for row in reading.rows.chunks(ROW_WIDTH) {
+        for &row in &reading.rows {
             for (at, altered) in alterations(row, &bytes) {
                 let range = at..at + altered.len();
                 let before = bytes[range.clone()].to_vec();
@@ -71,16 +72,16 @@ fn systematic(comparison: &mut Comparison, turns: u64, seed: u64) {
 }
 
 /// For the leaf of a row, other bytes and where they go.
-fn alterations(row: &[u32], bytes: &[u8]) -> Vec<(usize, Vec<u8>)> {
-    let (offset, len) = (row[1] as usize, row[2] as usize);
+fn alterations(row: Row, bytes: &[u8]) -> Vec<(usize, Vec<u8>)> {
+    let (offset, len) = (row.offset as usize, row.value as usize);
     let numbers = |at: usize| {
         let number = layouts::four(bytes, at);
         [number.wrapping_sub(1), number.wrapping_add(1), u32::MAX].map(|number| (at, number.to_le_bytes().to_vec()))
     };
     let mut altered = Vec::new();
-    match row[0] {
-        ffi::NUMBER | ffi::COUNT => altered.extend(numbers(offset)),
-        ffi::TEXT => {
+    match row.sort {
+        Sort::Number | Sort::Count => altered.extend(numbers(offset)),
+        Sort::Text => {
             altered.extend(numbers(offset - 4));
             if len > 0 {
                 altered.extend([(offset, vec![0x80]), (offset + len - 1, vec![0xc3])]);
@@ -166,10 +167,11 @@ fn large_lists(comparison: &mut Comparison, generator: &mut Generator) {
         };
         // A list is told by the rows before its count
         reading.read(What::Section, &make(FEW)).expect("what is generated is whole");
-        let rows: Vec<_> = reading.rows.chunks(ROW_WIDTH).collect();
-        let Some(at) = rows.iter().position(|row| (row[0], row[2]) == (ffi::COUNT, FEW)) else { continue };
-        let tag = if rows[at - 1][0] == ffi::TAG { rows[at - 1][2] } else { 0 };
-        if seen.insert((kind, rows[at - 2][0], rows[at - 1][0], tag)) {
+        let rows = &reading.rows;
+        let Some(at) = rows.iter().position(|row| (row.sort, row.value) == (Sort::Count, FEW)) else { continue };
+        let (second, last) = (rows[at - 2], rows[at - 1]);
+        let tag = if last.sort == Sort::Tag { last.value } else { 0 };
+        if seen.insert((kind, second.sort, last.sort, tag)) {
             let (most, more) = (make(MOST_RESERVED), make(MOST_RESERVED + 1));
             comparison.reading("lists of 100,000", What::Section, &most);
             comparison.reading("lists of 100,000, cut short", What::Payload, &most[4..most.len() - 1]);

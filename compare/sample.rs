@@ -12,14 +12,15 @@
 //!
 //! Bytes are in hexadecimal, - for none.
 use crate::comparison::{oracle, MOST_RESERVED, UNTOUCHED};
-use crate::ffi::{What, ROW_WIDTH, SQL_TEXT_SIZE, TAG, TEXT};
 use crate::generate::Generator;
 use crate::layouts::{Reading, AS};
 use crate::rebuild::Objects;
+use crate::what::{numbers, What};
 use crate::{flatten, written};
 use pgrx_sql_entity_graph::metadata::SqlMapping;
 use pgrx_sql_entity_graph::section::{EntryReader, ENTITY_CUSTOM_SQL, SQL_DECLARED_FUNCTION};
 use pgrx_sql_entity_graph::{ExtensionSql, SqlGraphEntity};
+use pgrxsc::{Row, Sort, SQL_TEXT_SIZE};
 
 /// Longer sections are left out.
 const MOST_BYTES: usize = 400;
@@ -31,7 +32,7 @@ pub fn hexadecimal(bytes: &[u8]) -> String {
     }
 }
 
-/// Prints so many lines: of eight, four of sections and one of each other letter.
+/// Prints `count` lines: of each eight, four of sections and one of each other letter.
 pub fn print(count: u64, seed: u64) {
     let mut generator = Generator::new(seed);
     let mut lines = 0;
@@ -78,22 +79,22 @@ fn sql_name(generator: &mut Generator) -> Option<String> {
     let SqlGraphEntity::CustomSql(entity) = &entities[0] else { return None };
     let parts = entity.creates.iter().map(ExtensionSql::declared_parts);
     let (_, name, _, sql) = parts.into_iter().find(|(kind, ..)| *kind == SQL_DECLARED_FUNCTION)?;
-    // The name's text is the one behind such a tag, with the name's bytes
+    // The name's text is the one after such a tag, with the name's bytes
     let mut reading = Reading::default();
     reading.read(What::Payload, &bytes).ok()?;
-    let rows: Vec<_> = reading.rows.chunks(ROW_WIDTH).collect();
-    let declared = |pair: &&[&[u32]]| {
+    let declared = |pair: &&[Row]| {
         let (tag, text) = (pair[0], pair[1]);
-        let body = |row: &[u32]| &bytes[row[1] as usize..(row[1] + row[2]) as usize];
-        tag[0] == TAG && tag[2] == SQL_DECLARED_FUNCTION.into() && text[0] == TEXT && body(text) == name.as_bytes()
+        let body = |row: Row| &bytes[row.offset as usize..(row.offset + row.value) as usize];
+        (tag.sort, tag.value, text.sort) == (Sort::Tag, SQL_DECLARED_FUNCTION.into(), Sort::Text)
+            && body(text) == name.as_bytes()
     };
-    let row = rows.windows(2).find(declared)?[1];
+    let row = reading.rows.windows(2).find(declared)?[1];
     if bytes.len() > MOST_BYTES {
         return None;
     }
-    let start = row[1] as usize + name.len() - sql.len();
-    let field = hexadecimal(&bytes);
-    Some(format!("N {field} {TEXT} {} {} part {start} {}", row[1], row[2], sql.len()))
+    let start = row.offset as usize + name.len() - sql.len();
+    let (field, sort) = (hexadecimal(&bytes), row.sort.number());
+    Some(format!("N {field} {sort} {} {} part {start} {}", row.offset, row.value, sql.len()))
 }
 
 /// A mapping between other bytes.
@@ -125,7 +126,7 @@ fn written(letter: &str, what: What, generator: &mut Generator) -> Option<String
     let mut dest = written::Value::new(what, &rows, &text).write();
     let len = dest.len();
     dest.extend(vec![UNTOUCHED; generator.random.below(4)]);
-    let rows: Vec<_> = rows.iter().map(u32::to_string).collect();
+    let rows: Vec<_> = numbers(&rows).iter().map(u32::to_string).collect();
     let (rows, text, size, dest) = (rows.join(","), hexadecimal(&text), dest.len(), hexadecimal(&dest));
     Some(format!("{letter} {rows} {text} {size} wrote {len} {dest}"))
 }

@@ -1,6 +1,5 @@
 //! The text check beside `std::str::from_utf8`: first the answers, then the speed. Built and run by `compare/text [SEED]`.
 mod common;
-mod ffi;
 
 use common::{median, Random};
 use std::hint::black_box;
@@ -13,7 +12,7 @@ fn std(text: &[u8]) -> bool {
 /// Compares the answers on a text and counts it.
 fn compare(text: &[u8], count: &mut u64) {
     *count += 1;
-    if ffi::is_text(text) != std(text) {
+    if pgrxsc::is_text(text) != std(text) {
         println!("differs: std says {} of {:02x?}", std(text), text);
         std::process::exit(1);
     }
@@ -66,7 +65,7 @@ fn seconds(check: fn(&[u8]) -> bool, texts: &[Vec<u8>], rounds: usize) -> f64 {
 fn race(name: &str, texts: Vec<Vec<u8>>, rounds: usize) {
     let (mut our_times, mut std_times) = (Vec::new(), Vec::new());
     for _ in 0..31 {
-        our_times.push(seconds(ffi::is_text, &texts, rounds));
+        our_times.push(seconds(pgrxsc::is_text, &texts, rounds));
         std_times.push(seconds(std, &texts, rounds));
     }
     let each = |times| median(times) * 1e9 / (texts.len() * rounds) as f64;

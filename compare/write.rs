@@ -1,14 +1,13 @@
 //! The metadata writer on records of some 16 MiB: the bytes that it writes, then its speed beside that of copying these bytes and
 //! checking their texts. Built and run by `compare/write [SEED]`.
 mod common;
-mod ffi;
 
 use common::{median, Random};
-use ffi::{What, COUNT, FLAG, LIMIT, NUMBER, TAG, TEXT};
+use pgrxsc::{Refusal, Row, Sort, LIMIT, ROW_WIDTH};
 use std::hint::black_box;
 use std::time::Instant;
 
-/// A record: its rows, the texts that they speak of, and the bytes that document 01 gives it.
+/// A record: its rows, their texts, and its bytes by the layouts (docs/FORMAT.md, Metadata and mappings).
 #[derive(Default)]
 struct Record {
     rows: Vec<u32>,
@@ -21,43 +20,43 @@ impl Record {
     /// A record without a resolution, of a Skip as argument and the return value that follows.
     fn new() -> Self {
         let mut record = Record::default();
-        record.byte(FLAG, 0);
-        record.byte(TAG, 1);
-        record.byte(TAG, 5);
-        record.byte(TAG, 1);
+        record.byte(Sort::Flag, 0);
+        record.byte(Sort::Tag, 1);
+        record.byte(Sort::Tag, 5);
+        record.byte(Sort::Tag, 1);
         record
     }
 
     /// A record that returns a table of `count` columns.
     fn table(count: usize) -> Self {
         let mut record = Record::new();
-        record.byte(TAG, 3);
-        record.four(COUNT, count as u32);
+        record.byte(Sort::Tag, 3);
+        record.four(Sort::Count, count as u32);
         record
     }
 
-    fn byte(&mut self, sort: u32, value: u8) {
-        self.rows.extend([sort, 0, value.into()]);
+    fn byte(&mut self, sort: Sort, value: u8) {
+        self.rows.extend(Row::new(sort, 0, value.into()).numbers());
         self.bytes.push(value);
     }
 
-    fn four(&mut self, sort: u32, value: u32) {
-        self.rows.extend([sort, 0, value]);
+    fn four(&mut self, sort: Sort, value: u32) {
+        self.rows.extend(Row::new(sort, 0, value).numbers());
         self.bytes.extend(value.to_le_bytes());
     }
 
     /// A mapping As with a text.
     fn sql_as(&mut self, text: &[u8]) {
-        self.byte(TAG, 1);
-        self.rows.extend([TEXT, self.text.len() as u32, text.len() as u32]);
+        self.byte(Sort::Tag, 1);
+        self.rows.extend(Row::new(Sort::Text, self.text.len() as u32, text.len() as u32).numbers());
         self.bytes.extend((text.len() as u32).to_le_bytes());
         self.bytes.extend(text);
         self.texts.push((self.text.len(), text.len()));
         self.text.extend(text);
     }
 
-    fn write(&self, dest: &mut [u8]) -> ffi::Answer {
-        ffi::write(What::Metadata, &self.rows, &self.text, dest)
+    fn write(&self, dest: &mut [u8]) -> Result<usize, Refusal> {
+        pgrxsc::write_metadata(&self.rows, &self.text, dest)
     }
 
     fn check(&self, check: fn(&[u8]) -> bool) -> bool {
@@ -72,12 +71,12 @@ fn std(text: &[u8]) -> bool {
 /// A record that returns one text.
 fn one(text: Vec<u8>) -> Record {
     let mut record = Record::new();
-    record.byte(TAG, 1);
+    record.byte(Sort::Tag, 1);
     record.sql_as(&text);
     record
 }
 
-/// A table of as many columns as fit, each of so many bytes and made by `column`.
+/// A table of as many columns as fit, each of `size` bytes and made by `column`.
 fn columns(size: usize, mut column: impl FnMut(&mut Record)) -> Record {
     let count = (LIMIT - 9) / size;
     let mut record = Record::table(count);
@@ -91,20 +90,20 @@ fn milliseconds(work: impl FnOnce()) -> f64 {
     start.elapsed().as_secs_f64() * 1e3
 }
 
-/// The bytes that are written, and those behind them; then the times by turns: the medians of 31 turns, and of the share in each.
+/// The bytes that are written, and those after them; then the times by turns: the medians of 31 turns, and of the share in each.
 fn race(name: &str, record: Record) {
     let len = record.bytes.len();
     let mut dest = vec![0xaa; LIMIT + 16];
-    assert_eq!(record.write(&mut dest), [0, 0, len as u64, 0], "{name}: the answer");
+    assert_eq!(record.write(&mut dest), Ok(len), "{name}: the answer");
     assert!(dest[..len] == record.bytes, "{name}: the bytes");
-    assert!(dest[len..].iter().all(|&byte| byte == 0xaa), "{name}: the bytes behind");
+    assert!(dest[len..].iter().all(|&byte| byte == 0xaa), "{name}: the bytes after");
 
     let mut copy = vec![1; LIMIT + 16];
     let mut times = [const { Vec::new() }; 5];
     for _ in 0..31 {
-        times[0].push(milliseconds(|| assert_eq!(record.write(&mut dest)[0], 0)));
+        times[0].push(milliseconds(|| assert_eq!(record.write(&mut dest), Ok(len))));
         times[1].push(milliseconds(|| black_box(&mut copy)[..len].copy_from_slice(black_box(&record.bytes))));
-        times[2].push(milliseconds(|| assert!(record.check(ffi::is_text))));
+        times[2].push(milliseconds(|| assert!(record.check(pgrxsc::is_text))));
         times[3].push(milliseconds(|| assert!(record.check(std))));
         times[4].push(milliseconds(|| {
             for _ in 0..2 {
@@ -117,7 +116,7 @@ fn race(name: &str, record: Record) {
     let [write, copy, our_check, std_check, rows] = times.map(median);
     println!(
         "{name:32} {:9} {write:8.2} {copy:8.2} {our_check:8.2} {std_check:8.2} {rows:8.2} {share:8.2}",
-        record.rows.len() / 3
+        record.rows.len() / ROW_WIDTH
     );
 }
 
@@ -152,12 +151,12 @@ fn main() {
     race(
         "Numeric alone",
         columns(11, |record| {
-            record.byte(TAG, 3);
-            record.byte(FLAG, 1);
-            record.four(NUMBER, 10);
-            record.byte(FLAG, 1);
-            record.four(NUMBER, 2);
+            record.byte(Sort::Tag, 3);
+            record.byte(Sort::Flag, 1);
+            record.four(Sort::Number, 10);
+            record.byte(Sort::Flag, 1);
+            record.four(Sort::Number, 2);
         }),
     );
-    race("Skip alone", columns(1, |record| record.byte(TAG, 5)));
+    race("Skip alone", columns(1, |record| record.byte(Sort::Tag, 5)));
 }

@@ -1,9 +1,10 @@
 //! What the Rust's `EntryWriter` writes of the value that rows spell, at run time and for each length up to `MOST`.
 use crate::common::Random;
-use crate::ffi::{What, ROW_WIDTH, TEXT};
 use crate::layouts::{AS, COMPOSITE, NUMERIC, SKIP};
+use crate::what::What;
 use pgrx_sql_entity_graph::metadata::*;
 use pgrx_sql_entity_graph::section as s;
+use pgrxsc::{Row, Sort};
 
 /// The longest record that is compared.
 pub const MOST: usize = 256;
@@ -20,8 +21,8 @@ pub enum Value {
 
 impl Value {
     /// The value that rows spell, whose texts stand in `text`. The texts are leaked: the Rust's value has no other.
-    pub fn new(what: What, rows: &[u32], text: &[u8]) -> Self {
-        let mut spelled = Spelled { rows, text };
+    pub fn new(what: What, rows: &[Row], text: &[u8]) -> Self {
+        let mut spelled = Spelled { rows: rows.iter(), text };
         match what {
             What::Metadata => Value::Metadata(spelled.resolution(), spelled.argument_sql(), spelled.return_sql()),
             _ => Value::Mapping(spelled.mapping()),
@@ -65,24 +66,22 @@ static WRITE: [[fn(Value) -> Vec<u8>; 16]; 17] = sixteen! { 0 1 2 3 4 5 6 7 8 9 
 
 /// The rows that are not yet taken.
 struct Spelled<'a> {
-    rows: &'a [u32],
+    rows: std::slice::Iter<'a, Row>,
     text: &'a [u8],
 }
 
 impl Spelled<'_> {
-    fn row(&mut self) -> [u32; ROW_WIDTH] {
-        let (row, rest) = self.rows.split_at(ROW_WIDTH);
-        self.rows = rest;
-        row.try_into().unwrap()
+    fn row(&mut self) -> Row {
+        *self.rows.next().expect("rows that spell a value")
     }
 
     fn value(&mut self) -> u32 {
-        self.row()[2]
+        self.row().value
     }
 
     fn text(&mut self) -> &'static str {
-        let [_, offset, len] = self.row();
-        let text = &self.text[offset as usize..(offset + len) as usize];
+        let row = self.row();
+        let text = &self.text[row.offset as usize..(row.offset + row.value) as usize];
         String::from_utf8(text.to_vec()).unwrap().leak()
     }
 
@@ -156,17 +155,17 @@ impl Spelled<'_> {
 }
 
 /// The same rows with their texts elsewhere: in bytes of their own, between bytes that are no text. Other rows get any offset.
-pub fn lend(rows: &[u32], bytes: &[u8], random: &mut Random) -> (Vec<u32>, Vec<u8>) {
+pub fn lend(rows: &[Row], bytes: &[u8], random: &mut Random) -> (Vec<Row>, Vec<u8>) {
     let (mut lent, mut text) = (rows.to_vec(), Vec::new());
-    for row in lent.chunks_mut(ROW_WIDTH) {
-        if row[0] != TEXT {
-            row[1] = random.next() as u32 >> random.below(32);
+    for row in &mut lent {
+        if row.sort != Sort::Text {
+            row.offset = random.next() as u32 >> random.below(32);
             continue;
         }
-        let start = row[1] as usize;
+        let start = row.offset as usize;
         text.extend(std::iter::repeat_n(0xff, random.below(3)));
-        row[1] = text.len() as u32;
-        text.extend(&bytes[start..start + row[2] as usize]);
+        row.offset = text.len() as u32;
+        text.extend(&bytes[start..start + row.value as usize]);
     }
     (lent, text)
 }

@@ -3,7 +3,7 @@
  *
  * Link the archive that `rt staticlib pgrxsc` makes (target/staticlib/libpgrxsc.a). It needs nothing but the C library's memset,
  * reserves no memory, keeps no state and writes nowhere but to what it is lent. So all functions may be called from several
- * threads at a time.
+ * threads at a time. docs/FORMAT.md describes the format, the rows and the refusals at length.
  *
  * Bytes and tables are lent as a pointer and a length; the length of a table counts its 32-bit numbers. A pointer must not be
  * NULL, also where the length is 0, and what a call may change must not overlap what else it is lent.
@@ -15,42 +15,52 @@
  *   answer[2]  a, as the function says; 0 after a refusal
  *   answer[3]  b, as the function says; 0 after a refusal
  *
- * ROWS. Three numbers of a table make a row: sort, offset, value. A reading gives a row for each leaf, in the order of reading:
+ * ROWS. PGRXSC_ROW_WIDTH numbers of a table make a row: sort, offset, value. A reading gives a row for each leaf, in the order
+ * of reading. The constant for a sort is PGRXSC_SORT_ and its name:
  *
- *   sort  leaf              offset                                value
- *   1     kind of entity    of its byte                           1 to 9
- *   2     other tag         of its byte                           the byte
- *   3     flag              of its byte                           0 or 1
- *   4     number            of its first byte                     the number
- *   5     count of a list   of its first byte                     the count
- *   6     text              of the first byte behind its length   its length in bytes
+ *   sort  name    leaf              offset                               value
+ *   1     KIND    kind of entity    of its byte                          1 to 9, see below
+ *   2     TAG     other tag         of its byte                          the byte
+ *   3     FLAG    flag              of its byte                          0 or 1
+ *   4     NUMBER  number            of its first byte                    the number
+ *   5     COUNT   count of a list   of its first byte                    the count
+ *   6     TEXT    text              of the first byte after its length   its length in bytes
  *
  * Offsets count from the start of the bytes given. A reading never has more rows than bytes.
  *
- * REFUSALS.
+ * KINDS. The constant for a kind of entity is PGRXSC_KIND_ and its name:
  *
- *   number  is returned when                                                            place
- *   1       there are more than 16,777,216 bytes                                        0
- *   2       at a boundary one to three bytes are left, not all 0                        the boundary
- *   3       the length at a boundary is 0, and a byte that is not 0 stands behind it    the length
- *   4       the length at a boundary is more than the bytes behind it                   the length
- *   5       a read needs more bytes than the payload has left                           where the read begins; of a text's
- *                                                                                       bytes, behind its length
- *   6       a flag is neither 0 nor 1                                                   the flag
- *   7       a text is not UTF-8 by RFC 3629                                             its first byte
- *   8       the kind of an entity is unknown                                            the kind
- *   9       another tag is unknown                                                      the tag
- *   10      a declaration's mapping, or the one read for its SQL text, is neither       the declaration's result, or
- *           As nor Numeric                                                              the offset given
- *   11      a declaration's result is an error                                          the result
- *   12      bytes remain after the entity, the record or the mapping                    the first of them
- *   13      the table has fewer whole rows than the reading needs                       0
- *   14      the rows given to a writer do not spell exactly one record or mapping       0
- *   15      a text row leaves the lent bytes or is not UTF-8 there, or a row given      0
- *           as text is of another sort
- *   16      the written length is more than 16,777,216                                  0
- *   17      the destination is shorter than what is written, or the buffer for an       0
- *           SQL text has not 31 bytes
+ *   kind  name         kind  name         kind  name
+ *   1     SCHEMA       4     TYPE         7     HASH
+ *   2     CUSTOM_SQL   5     ENUM         8     AGGREGATE
+ *   3     FUNCTION     6     ORD          9     TRIGGER
+ *
+ * REFUSALS. The constant for a refusal is PGRXSC_REFUSAL_ and its name:
+ *
+ *   number  name             is returned when                                           place
+ *   1       INPUT_TOO_LONG   there are more than PGRXSC_LIMIT bytes                     0
+ *   2       PARTIAL_LENGTH   at a boundary one to three bytes are left, not all 0       the boundary
+ *   3       ZERO_LENGTH      the length at a boundary is 0, and a byte after it         the length
+ *                            is not 0
+ *   4       ENTRY_TOO_LONG   the length at a boundary is more than the bytes after it   the length
+ *   5       TRUNCATED        a read needs more bytes than the payload has left          where the read begins; of a text's
+ *                                                                                       bytes, after its length
+ *   6       BAD_FLAG         a flag is neither 0 nor 1                                  the flag
+ *   7       NOT_UTF8         a text is not UTF-8 by RFC 3629                            its first byte
+ *   8       UNKNOWN_KIND     the kind of an entity is unknown                           the kind
+ *   9       UNKNOWN_TAG      another tag is unknown                                     the tag
+ *   10      NO_SQL_TEXT      a declaration's mapping, or the one read for its SQL       the declaration's result, or
+ *                            text, is neither As nor Numeric                            the offset given
+ *   11      DECLARED_ERROR   a declaration's result is an error                         the result
+ *   12      TRAILING_BYTES   bytes remain after the entity, the record or the mapping   the first of them
+ *   13      TABLE_TOO_SMALL  the table has fewer whole rows than the reading needs      0
+ *   14      BAD_ROWS         the rows given to a writer do not spell exactly one        0
+ *                            record or mapping
+ *   15      BAD_TEXT_ROW     a text row leaves the lent bytes or is not UTF-8 there,    0
+ *                            or a row given as text is of another sort
+ *   16      OUTPUT_TOO_LONG  the written length is more than PGRXSC_LIMIT               0
+ *   17      BAD_BUFFER_SIZE  the destination is shorter than what is written, or the    0
+ *                            buffer for an SQL text has not PGRXSC_SQL_TEXT_SIZE bytes
  *
  * A boundary is the section's start or the end of an entry. 1 comes first, then 2 to 4 at the first bad boundary, then 5 to 12
  * at the first bad read, then 13. A writer's refusals come in the order 14 to 17.
@@ -66,7 +76,19 @@
 extern "C" {
 #endif
 
-/* The most bytes that are read or written. */
+/*
+ * The version of this header. It grows by one whenever a function, a row or a refusal changes its shape or its meaning, as when
+ * a row gets another number. Header and archive must be of the same version; if they are not, the program may still link. So
+ * compare the two before the first other call:
+ *
+ *   if (pgrxsc_version() != PGRXSC_VERSION) ...
+ */
+#define PGRXSC_VERSION 1
+
+/* Returns the version of the archive: PGRXSC_VERSION of the header that belongs to it. */
+uint32_t pgrxsc_version(void);
+
+/* The most bytes that are read or written: 16 MiB. */
 #define PGRXSC_LIMIT 16777216
 
 /* The numbers of a row. */
@@ -75,9 +97,47 @@ extern "C" {
 /* The bytes of the buffer for an SQL text. */
 #define PGRXSC_SQL_TEXT_SIZE 31
 
+/* The sorts of rows. */
+#define PGRXSC_SORT_KIND 1
+#define PGRXSC_SORT_TAG 2
+#define PGRXSC_SORT_FLAG 3
+#define PGRXSC_SORT_NUMBER 4
+#define PGRXSC_SORT_COUNT 5
+#define PGRXSC_SORT_TEXT 6
+
+/* The kinds of entities. */
+#define PGRXSC_KIND_SCHEMA 1
+#define PGRXSC_KIND_CUSTOM_SQL 2
+#define PGRXSC_KIND_FUNCTION 3
+#define PGRXSC_KIND_TYPE 4
+#define PGRXSC_KIND_ENUM 5
+#define PGRXSC_KIND_ORD 6
+#define PGRXSC_KIND_HASH 7
+#define PGRXSC_KIND_AGGREGATE 8
+#define PGRXSC_KIND_TRIGGER 9
+
+/* The refusals. */
+#define PGRXSC_REFUSAL_INPUT_TOO_LONG 1
+#define PGRXSC_REFUSAL_PARTIAL_LENGTH 2
+#define PGRXSC_REFUSAL_ZERO_LENGTH 3
+#define PGRXSC_REFUSAL_ENTRY_TOO_LONG 4
+#define PGRXSC_REFUSAL_TRUNCATED 5
+#define PGRXSC_REFUSAL_BAD_FLAG 6
+#define PGRXSC_REFUSAL_NOT_UTF8 7
+#define PGRXSC_REFUSAL_UNKNOWN_KIND 8
+#define PGRXSC_REFUSAL_UNKNOWN_TAG 9
+#define PGRXSC_REFUSAL_NO_SQL_TEXT 10
+#define PGRXSC_REFUSAL_DECLARED_ERROR 11
+#define PGRXSC_REFUSAL_TRAILING_BYTES 12
+#define PGRXSC_REFUSAL_TABLE_TOO_SMALL 13
+#define PGRXSC_REFUSAL_BAD_ROWS 14
+#define PGRXSC_REFUSAL_BAD_TEXT_ROW 15
+#define PGRXSC_REFUSAL_OUTPUT_TOO_LONG 16
+#define PGRXSC_REFUSAL_BAD_BUFFER_SIZE 17
+
 /*
  * Reads a whole section: entries, then padding. a is the number of entities, b the number of rows. The table then has the rows,
- * and only 0 behind them; after a refusal it is all 0. Refusals 1 to 13.
+ * and only 0 after them; after a refusal it is all 0. Refusals 1 to 13.
  */
 void pgrxsc_read_section(const uint8_t *bytes, size_t len, uint32_t *table, size_t table_len, uint64_t answer[4]);
 
@@ -112,7 +172,7 @@ uint32_t pgrxsc_sql_text(const uint8_t *bytes, size_t len, uint32_t offset, uint
 
 /*
  * Writes one metadata record from its rows to the start of dest. The offset of a text row counts from the start of `text`; other
- * offsets are not looked at. a is the written length, b is 0. Bytes behind it are unchanged, and so is all of dest after a
+ * offsets are not looked at. a is the written length, b is 0. Bytes after it are unchanged, and so is all of dest after a
  * refusal. pgrxsc_metadata_len tells how long dest must be. Refusals 14 to 17.
  */
 void pgrxsc_write_metadata(const uint32_t *rows, size_t rows_len, const uint8_t *text, size_t text_len, uint8_t *dest,
@@ -132,10 +192,17 @@ void pgrxsc_metadata_len(const uint32_t *rows, size_t rows_len, const uint8_t *t
 void pgrxsc_mapping_len(const uint32_t *rows, size_t rows_len, const uint8_t *text, size_t text_len, uint64_t answer[4]);
 
 /*
- * Returns the number of unordered pairs of entities of a section with the same full_path bytes; schemas have none. After a
- * refusal it is 0. a and b are 0. Refusals 1 to 12.
+ * Returns the number of unordered pairs of entities of a section with the same full_path bytes; schemas have none and are in no
+ * pair. After a refusal it is 0. a and b are 0. Refusals 1 to 12.
+ *
+ * `work` is room to work in: any number of 32-bit numbers, none included. Result and answer do not depend on it, and what it
+ * holds afterwards is left free; it decides what the call costs. Lend a number for each entity that is no schema: len / 27 are
+ * always enough, since the entry of such an entity takes 27 bytes or more. Then the paths of n entities are sorted, in n log n
+ * comparisons: about a second at most for any section. With fewer numbers the paths are compared pair by pair, and the time
+ * grows with the square of n: about a second for 10,000 entities, a minute and a half for 100,000, and the better part of an
+ * hour for 600,000.
  */
-uint64_t pgrxsc_path_pairs(const uint8_t *bytes, size_t len, uint64_t answer[4]);
+uint64_t pgrxsc_path_pairs(const uint8_t *bytes, size_t len, uint32_t *work, size_t work_len, uint64_t answer[4]);
 
 /* Whether the bytes are UTF-8 by RFC 3629. */
 bool pgrxsc_is_text(const uint8_t *bytes, size_t len);

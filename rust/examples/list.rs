@@ -29,8 +29,7 @@ pub fn list(section: &[u8], out: &mut impl Write) -> io::Result<()> {
             let (entities, rows) = (reading.entities(), reading.rows());
             writeln!(out, "accept {} {}", entities.len(), rows.len())?;
             for row in rows {
-                let [sort, offset, value] = row.numbers();
-                writeln!(out, "{sort} {offset} {value}")?;
+                writeln!(out, "{} {} {}", row.sort.number(), row.offset, row.value)?;
             }
         }
         Err(refusal) => {

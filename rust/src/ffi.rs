@@ -1,15 +1,23 @@
-//! The archive's functions, as `include/pgrxsc.h` declares them, behind safe functions. All unsafe
+//! The archive's functions, as `include/pgrxsc.h` declares them, each in a safe function. All unsafe
 //! code of the crate is here.
 //!
 //! What the header asks of a caller is met by the types: a slice's pointer is not null, also where
 //! the slice is empty, and is good for the slice's length; what is lent as `&mut` overlaps nothing
-//! else that is lent.
+//! else that is lent. That the declarations are those of the archive is tested at the first call, by
+//! the version.
+
+use crate::{Row, VERSION};
+use std::sync::atomic::{AtomicBool, Ordering};
 
 /// The four numbers of an answer: a refusal's number and place, then a and b.
 pub(crate) type Answer = [u64; 4];
 
+/// What is lent for an answer: no number of it could be taken for one of the archive's.
+const UNANSWERED: Answer = [u64::MAX; 4];
+
 mod archive {
     extern "C" {
+        pub fn pgrxsc_version() -> u32;
         pub fn pgrxsc_read_section(
             bytes: *const u8,
             len: usize,
@@ -94,9 +102,35 @@ mod archive {
             text_len: usize,
             answer: *mut u64,
         );
-        pub fn pgrxsc_path_pairs(bytes: *const u8, len: usize, answer: *mut u64) -> u64;
+        pub fn pgrxsc_path_pairs(
+            bytes: *const u8,
+            len: usize,
+            work: *mut u32,
+            work_len: usize,
+            answer: *mut u64,
+        ) -> u64;
         pub fn pgrxsc_is_text(bytes: *const u8, len: usize) -> bool;
     }
+}
+
+/// Panics if the archive is of another version than the crate. Every function below begins with
+/// this; all calls but the first cost one load.
+fn check_version() {
+    static CHECKED: AtomicBool = AtomicBool::new(false);
+    if !CHECKED.load(Ordering::Relaxed) {
+        // SAFETY: the function takes nothing and changes nothing.
+        compare_version(unsafe { archive::pgrxsc_version() });
+        CHECKED.store(true, Ordering::Relaxed);
+    }
+}
+
+fn compare_version(archive: u32) {
+    assert!(
+        archive == VERSION,
+        "libpgrxsc.a is of version {archive}, but the crate pgrxsc is of version {VERSION}. Run \
+         `rt staticlib pgrxsc` in the repository that has the crate, or name the folder of an \
+         archive made from the same state of the repository in the environment variable PGRXSC_LIB."
+    );
 }
 
 /// What bytes are read as.
@@ -110,13 +144,14 @@ pub(crate) enum Form {
 
 /// a is the number of entities, b the number of rows.
 pub(crate) fn read(form: Form, bytes: &[u8], table: &mut [u32]) -> Answer {
+    check_version();
     let function = match form {
         Form::Section => archive::pgrxsc_read_section,
         Form::Payload => archive::pgrxsc_read_payload,
         Form::Metadata => archive::pgrxsc_read_metadata,
         Form::Mapping => archive::pgrxsc_read_mapping,
     };
-    let mut answer = [0; 4];
+    let mut answer = UNANSWERED;
     // SAFETY: the pointers and lengths are those of slices, the answer has four numbers, and
     // `table` and `answer` overlap nothing, being borrowed mutably.
     unsafe {
@@ -139,21 +174,22 @@ pub(crate) enum Part {
 }
 
 /// a is the part's start in the bytes, b its length.
-pub(crate) fn part(part: Part, bytes: &[u8], [sort, offset, value]: [u32; 3]) -> Answer {
+pub(crate) fn part(part: Part, bytes: &[u8], row: Row) -> Answer {
+    check_version();
     let function = match part {
         Part::RowText => archive::pgrxsc_row_text,
         Part::SqlName => archive::pgrxsc_sql_name,
     };
-    let mut answer = [0; 4];
+    let mut answer = UNANSWERED;
     // SAFETY: pointer and length are those of a slice; the answer has four numbers and overlaps
-    // nothing. The row may be any three numbers, since the function tests it.
+    // nothing. Any row may be given, since the function tests it.
     unsafe {
         function(
             bytes.as_ptr(),
             bytes.len(),
-            sort,
-            offset,
-            value,
+            row.sort.number(),
+            row.offset,
+            row.value,
             answer.as_mut_ptr(),
         );
     }
@@ -163,7 +199,8 @@ pub(crate) fn part(part: Part, bytes: &[u8], [sort, offset, value]: [u32; 3]) ->
 /// a is the text's start and b its length: in the buffer if the first result is true, else in the
 /// bytes.
 pub(crate) fn sql_text(bytes: &[u8], offset: u32, buffer: &mut [u8]) -> (bool, Answer) {
-    let mut answer = [0; 4];
+    check_version();
+    let mut answer = UNANSWERED;
     // SAFETY: the pointers and lengths are those of slices, the answer has four numbers, and
     // `buffer` and `answer` overlap nothing, being borrowed mutably. Any offset may be given.
     let place = unsafe {
@@ -188,11 +225,12 @@ pub(crate) enum Written {
 
 /// a is the written length.
 pub(crate) fn write(written: Written, rows: &[u32], text: &[u8], dest: &mut [u8]) -> Answer {
+    check_version();
     let function = match written {
         Written::Metadata => archive::pgrxsc_write_metadata,
         Written::Mapping => archive::pgrxsc_write_mapping,
     };
-    let mut answer = [0; 4];
+    let mut answer = UNANSWERED;
     // SAFETY: the pointers and lengths are those of slices, the answer has four numbers, and
     // `dest` and `answer` overlap nothing, being borrowed mutably.
     unsafe {
@@ -211,11 +249,12 @@ pub(crate) fn write(written: Written, rows: &[u32], text: &[u8], dest: &mut [u8]
 
 /// a is the length that would be written.
 pub(crate) fn written_len(written: Written, rows: &[u32], text: &[u8]) -> Answer {
+    check_version();
     let function = match written {
         Written::Metadata => archive::pgrxsc_metadata_len,
         Written::Mapping => archive::pgrxsc_mapping_len,
     };
-    let mut answer = [0; 4];
+    let mut answer = UNANSWERED;
     // SAFETY: the pointers and lengths are those of slices; the answer has four numbers and
     // overlaps nothing.
     unsafe {
@@ -230,17 +269,42 @@ pub(crate) fn written_len(written: Written, rows: &[u32], text: &[u8]) -> Answer
     answer
 }
 
-/// The number of pairs is the first result; a and b are 0.
-pub(crate) fn path_pairs(bytes: &[u8]) -> (u64, Answer) {
-    let mut answer = [0; 4];
-    // SAFETY: pointer and length are those of a slice; the answer has four numbers and overlaps
-    // nothing.
-    let pairs =
-        unsafe { archive::pgrxsc_path_pairs(bytes.as_ptr(), bytes.len(), answer.as_mut_ptr()) };
+/// The number of pairs is the first result; a and b are 0. The work changes neither.
+pub(crate) fn path_pairs(bytes: &[u8], work: &mut [u32]) -> (u64, Answer) {
+    check_version();
+    let mut answer = UNANSWERED;
+    // SAFETY: the pointers and lengths are those of slices, the answer has four numbers, and
+    // `work` and `answer` overlap nothing, being borrowed mutably.
+    let pairs = unsafe {
+        archive::pgrxsc_path_pairs(
+            bytes.as_ptr(),
+            bytes.len(),
+            work.as_mut_ptr(),
+            work.len(),
+            answer.as_mut_ptr(),
+        )
+    };
     (pairs, answer)
 }
 
 pub(crate) fn is_text(bytes: &[u8]) -> bool {
+    check_version();
     // SAFETY: pointer and length are those of a slice.
     unsafe { archive::pgrxsc_is_text(bytes.as_ptr(), bytes.len()) }
+}
+
+#[cfg(test)]
+mod tests {
+    use super::{compare_version, VERSION};
+
+    #[test]
+    fn the_same_version() {
+        compare_version(VERSION);
+    }
+
+    #[test]
+    #[should_panic(expected = "libpgrxsc.a is of version 0, but the crate pgrxsc is of version ")]
+    fn another_version() {
+        compare_version(0);
+    }
 }

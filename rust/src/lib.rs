@@ -5,6 +5,7 @@
 //! one entity, and then zero bytes, if any. The reader is proved: it accepts exactly the sections
 //! that the format's written layouts allow, and gives all others one numbered [`Refusal`] with its
 //! place. This crate lends that reader's archive the slices, and gives its answers as Rust types.
+//! `docs/FORMAT.md` in the repository describes the format, its rows and the refusals.
 //!
 //! ```
 //! use pgrxsc::{EntityKind, Refusal, Table};
@@ -26,17 +27,18 @@
 //! # Rows
 //!
 //! A reading gives a [`Row`] for each value of the section, in the order in which they stand there.
-//! The rows are stored in a table of 32-bit numbers, three to a row, which the caller lends
+//! The rows are stored in a table of 32-bit numbers, [`ROW_WIDTH`] to a row, which the caller lends
 //! ([`read_section`]) or a [`Table`] holds. Texts are not copied: they are parts of the bytes read.
-//! Nothing is reserved for a count or a length that only stands in the section; only a [`Table`]
-//! reserves memory at all.
+//! Nothing is reserved for a count or a length that only stands in the section; only a [`Table`] and
+//! [`path_pairs`] reserve memory at all, by the number of bytes that they are given.
 //!
 //! # What is proved, and what is not
 //!
 //! The proofs are of the archive. This crate is ordinary Rust; all its unsafe code is the calls of
 //! the archive's functions. It relies on the header's promise that these change nothing but what
-//! they are lent. What they answer is tested before it is used as a text, as an index or as a sort:
-//! an answer that breaks the header's promises makes the crate panic, and nothing else does.
+//! they are lent. What they answer is tested before it is used as a text, as an index or as a sort.
+//! The crate panics if an answer breaks the header's promises, or if the archive is of another
+//! [`VERSION`], and for no other reason.
 //!
 //! All functions can be called from several threads at a time.
 //!
@@ -44,7 +46,8 @@
 //!
 //! The crate links `libpgrxsc.a`, which `rt staticlib pgrxsc` puts in `target/staticlib` of the
 //! repository. For an archive in another folder, name the folder in the environment variable
-//! `PGRXSC_LIB`.
+//! `PGRXSC_LIB`. `cargo check` and `cargo doc` do without the archive. The target must be x86-64
+//! Linux.
 
 #![deny(unsafe_code)]
 #![deny(missing_docs)]
@@ -62,10 +65,18 @@ pub use parts::{is_text, path_pairs, row_text, sql_name, sql_text};
 pub use reading::{
     read_mapping, read_metadata, read_payload, read_section, Entities, Entity, Reading, Rows, Texts,
 };
-pub use refusal::Refusal;
+pub use refusal::{Refusal, RefusalKind};
 pub use row::{EntityKind, Row, Sort};
 pub use table::{table_len, Table};
 pub use writing::{mapping_len, metadata_len, write_mapping, write_metadata};
+
+/// The version of the archive that the crate works with, `PGRXSC_VERSION` in `include/pgrxsc.h`. It
+/// grows by one whenever a function, a row or a refusal changes its shape or its meaning.
+///
+/// The first call of the archive compares it with the archive's own version, and panics if they
+/// differ. Then crate and archive are of different states of the repository: run
+/// `rt staticlib pgrxsc` again.
+pub const VERSION: u32 = 1;
 
 /// The most bytes that are read or written: 16 MiB.
 pub const LIMIT: usize = 16_777_216;

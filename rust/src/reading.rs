@@ -115,7 +115,7 @@ pub(crate) fn fill(form: Form, bytes: &[u8], table: &mut [u32]) -> Result<Counts
 /// The table cannot change while a reading of it is in use:
 ///
 /// ```compile_fail,E0506
-/// let mut table = [0; 3];
+/// let mut table = [0; pgrxsc::ROW_WIDTH];
 /// let reading = pgrxsc::read_section(&[], &mut table).unwrap();
 /// table[0] = 1;
 /// reading.rows();

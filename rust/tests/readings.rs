@@ -2,13 +2,13 @@
 
 mod common;
 
-use common::{custom_sql, entry, function, hex, numbers, schema, sentinel, text, trigger};
+use common::{custom_sql, entry, function, hex, rows, schema, sentinel, table, text, trigger};
 use pgrxsc::{
-    path_pairs, read_mapping, read_metadata, read_payload, read_section, table_len, EntityKind,
-    Reading, Refusal, Row, Sort, Table,
+    read_mapping, read_metadata, read_payload, read_section, table_len, EntityKind, Reading,
+    Refusal, Row, Sort, Table, ROW_WIDTH, SQL_TEXT_SIZE,
 };
 
-/// A section of two schemas, with a sentinel between them and padding behind.
+/// A section of two schemas, with a sentinel between them and padding after them.
 fn two_schemas() -> Vec<u8> {
     [
         entry(&schema("m", "one", "f.rs", 7)),
@@ -26,19 +26,20 @@ fn rows_of_two_schemas() {
     let reading = read_section(&section, &mut table).unwrap();
     // The first payload has 25 bytes, so the second begins at 4 + 25 + 13 + 4.
     let expected = [
-        [1, 4, 1],
-        [6, 9, 1],
-        [6, 14, 3],
-        [6, 21, 4],
-        [4, 25, 7],
-        [1, 46, 1],
-        [6, 51, 0],
-        [6, 55, 7],
-        [6, 66, 0],
-        [4, 66, 1 << 31],
+        (1, 4, 1),
+        (6, 9, 1),
+        (6, 14, 3),
+        (6, 21, 4),
+        (4, 25, 7),
+        (1, 46, 1),
+        (6, 51, 0),
+        (6, 55, 7),
+        (6, 66, 0),
+        (4, 66, 1 << 31),
     ];
-    assert_eq!(numbers(reading), expected);
-    assert_eq!(reading.numbers(), expected.concat());
+    assert_eq!(rows(reading), expected);
+    let numbers: Vec<u32> = reading.rows().flat_map(Row::numbers).collect();
+    assert_eq!(reading.numbers(), numbers);
     assert_eq!(reading.bytes(), section);
     assert_eq!(reading.entities().len(), 2);
 }
@@ -118,10 +119,8 @@ fn text_of_a_row() {
     let rows: Vec<Row> = reading.rows().collect();
     assert_eq!(reading.text(rows[2]), Ok("one"));
     assert_eq!(reading.text(rows[0]), Err(Refusal::new(15, 0)));
-    let changed = Row {
-        value: 1000,
-        ..rows[2]
-    };
+    let mut changed = rows[2];
+    changed.value = 1000;
     assert_eq!(reading.text(changed), Err(Refusal::new(15, 0)));
 }
 
@@ -142,8 +141,8 @@ fn one_payload() {
     let mut table = Table::new();
     let reading = table.read_payload(&payload).unwrap();
     assert_eq!(
-        numbers(reading),
-        [[1, 0, 1], [6, 5, 1], [6, 10, 3], [6, 17, 4], [4, 21, 7]]
+        rows(reading),
+        [(1, 0, 1), (6, 5, 1), (6, 10, 3), (6, 17, 4), (4, 21, 7)]
     );
     assert_eq!(reading.entities().len(), 1);
     assert_eq!(reading.entities().next().unwrap().rows().len(), 5);
@@ -172,21 +171,21 @@ fn one_record() {
     let mut table = Table::new();
     let reading = table.read_metadata(&record).unwrap();
     assert_eq!(
-        numbers(reading),
+        rows(reading),
         [
-            [3, 0, 1],
-            [6, 5, 1],
-            [2, 6, 2],
-            [2, 7, 2],
-            [2, 8, 7],
-            [6, 13, 2],
-            [2, 15, 1],
-            [2, 16, 3],
-            [5, 17, 2],
-            [2, 21, 1],
-            [6, 26, 4],
-            [2, 30, 2],
-            [2, 31, 4]
+            (3, 0, 1),
+            (6, 5, 1),
+            (2, 6, 2),
+            (2, 7, 2),
+            (2, 8, 7),
+            (6, 13, 2),
+            (2, 15, 1),
+            (2, 16, 3),
+            (5, 17, 2),
+            (2, 21, 1),
+            (6, 26, 4),
+            (2, 30, 2),
+            (2, 31, 4)
         ]
     );
     assert_eq!(reading.texts().collect::<Vec<_>>(), ["i", "no", "TEXT"]);
@@ -199,8 +198,15 @@ fn one_mapping() {
     let mapping = [vec![1], text("INT")].concat();
     let mut table = Table::new();
     let reading = table.read_mapping(&mapping).unwrap();
-    assert_eq!(numbers(reading), [[2, 0, 1], [6, 5, 3]]);
+    assert_eq!(rows(reading), [(2, 0, 1), (6, 5, 3)]);
     assert_eq!(reading.entities().len(), 0);
+}
+
+/// The rows of a reading, each as sort, offset and value with blanks between, and commas between rows.
+fn listed(reading: Reading) -> String {
+    let rows = rows(reading).into_iter();
+    let rows = rows.map(|(sort, offset, value)| format!("{sort} {offset} {value}"));
+    rows.collect::<Vec<_>>().join(", ")
 }
 
 /// A case made by a model of the format that shares nothing with the reader.
@@ -214,19 +220,19 @@ fn a_function_of_67_rows() {
          0005000000f09f988061000100000400000008010905010300000005000000f48ab3925504000000f09f9880\
          000000000100000000010a000000cf82ecb0b57eeca4b1720100010101000000000000",
     );
-    let rows = "1 17 3 6 22 8 6 34 10 6 48 12 6 64 0 5 64 0 2 68 3 6 73 2 6 79 9 3 88 0 3 89 0 \
-                3 90 1 6 95 13 3 108 0 3 109 1 6 114 7 2 121 2 2 122 2 2 123 7 6 128 6 2 134 1 \
-                2 135 3 5 136 4 2 140 2 2 141 3 3 142 1 4 143 845 3 147 1 4 148 864 2 152 3 \
-                3 153 0 4 154 239409564 3 158 1 4 159 218 2 163 2 2 164 4 2 165 3 3 166 1 \
-                4 167 4188105808 3 171 0 4 172 198 3 176 0 6 181 5 4 186 256 5 190 4 2 194 8 \
-                2 195 1 2 196 9 2 197 5 3 198 1 5 199 3 6 207 5 6 216 4 6 224 0 3 224 1 3 225 0 \
-                3 226 0 3 227 0 3 228 0 3 229 1 6 234 10 3 244 1 3 245 0 3 246 1 2 247 1 3 248 1 \
-                3 249 0";
-    let rows: Vec<u32> = rows.split(' ').map(|n| n.parse().unwrap()).collect();
+    let expected = "1 17 3, 6 22 8, 6 34 10, 6 48 12, 6 64 0, 5 64 0, 2 68 3, 6 73 2, 6 79 9, \
+                    3 88 0, 3 89 0, 3 90 1, 6 95 13, 3 108 0, 3 109 1, 6 114 7, 2 121 2, \
+                    2 122 2, 2 123 7, 6 128 6, 2 134 1, 2 135 3, 5 136 4, 2 140 2, 2 141 3, \
+                    3 142 1, 4 143 845, 3 147 1, 4 148 864, 2 152 3, 3 153 0, 4 154 239409564, \
+                    3 158 1, 4 159 218, 2 163 2, 2 164 4, 2 165 3, 3 166 1, 4 167 4188105808, \
+                    3 171 0, 4 172 198, 3 176 0, 6 181 5, 4 186 256, 5 190 4, 2 194 8, 2 195 1, \
+                    2 196 9, 2 197 5, 3 198 1, 5 199 3, 6 207 5, 6 216 4, 6 224 0, 3 224 1, \
+                    3 225 0, 3 226 0, 3 227 0, 3 228 0, 3 229 1, 6 234 10, 3 244 1, 3 245 0, \
+                    3 246 1, 2 247 1, 3 248 1, 3 249 0";
 
     let mut table = Table::new();
     let reading = table.read_section(&section).unwrap();
-    assert_eq!(reading.numbers(), rows);
+    assert_eq!(listed(reading), expected);
     let entities: Vec<_> = reading.entities().collect();
     assert_eq!(entities.len(), 1);
     assert_eq!(entities[0].kind(), EntityKind::Function);
@@ -234,7 +240,7 @@ fn a_function_of_67_rows() {
     assert_eq!(reading.texts().next(), Some("é日本"));
 
     // Its table returned begins with an array of Numeric, whose text is none of a mapping.
-    let mut buffer = [0; 31];
+    let mut buffer = [0; SQL_TEXT_SIZE];
     assert_eq!(
         reading.sql_text(140, &mut buffer),
         Err(Refusal::new(10, 140))
@@ -243,31 +249,9 @@ fn a_function_of_67_rows() {
 }
 
 #[test]
-fn pairs_of_paths() {
-    let paths = |paths: &[&str]| -> Vec<u8> {
-        let entities = paths.iter().map(|path| entry(&function(path, &[])));
-        entities.flatten().collect()
-    };
-    assert_eq!(path_pairs(&paths(&["a", "b"])), Ok(0));
-    assert_eq!(path_pairs(&paths(&["a", "b", "a"])), Ok(1));
-    assert_eq!(path_pairs(&paths(&["a", "b", "a", "b", "a"])), Ok(4));
-
-    // Entities of two kinds make a pair; schemas make none.
-    let mixed = [entry(&function("a", &[])), entry(&trigger("a"))].concat();
-    assert_eq!(path_pairs(&mixed), Ok(1));
-    let schemas = [
-        entry(&schema("a", "a", "a", 1)),
-        entry(&schema("a", "a", "a", 1)),
-    ]
-    .concat();
-    assert_eq!(path_pairs(&schemas), Ok(0));
-    assert_eq!(path_pairs(&[1, 0, 0, 0, 10]), Err(Refusal::new(8, 4)));
-}
-
-#[test]
 fn debug_shows_counts() {
     let section = two_schemas();
-    let mut table = [0; 30];
+    let mut table = [0; 10 * ROW_WIDTH];
     let reading = read_section(&section, &mut table).unwrap();
     assert_eq!(
         format!("{reading:?}"),
@@ -296,12 +280,18 @@ fn numbers_of_sorts_and_kinds() {
             (1..=9).contains(&number).then_some(number)
         );
     }
-    assert_eq!(
-        Row::from_numbers([6, 5, 4]),
-        Some(Row::new(Sort::Text, 5, 4))
-    );
-    assert_eq!(Row::from_numbers([0, 0, 0]), None);
-    assert_eq!(Row::from_numbers([7, 0, 0]), None);
+}
+
+#[test]
+fn numbers_of_rows() {
+    let row = Row::new(Sort::Text, 5, 4);
+    assert_eq!(row.numbers().to_vec(), table(&[(6, 5, 4)]));
+    assert_eq!(Row::from_numbers(row.numbers()), Some(row));
+    for sort in [0, 7, u32::MAX] {
+        let mut numbers = row.numbers();
+        numbers[0] = sort;
+        assert_eq!(Row::from_numbers(numbers), None);
+    }
 }
 
 #[test]
@@ -313,17 +303,17 @@ fn readings_can_be_sent() {
 #[test]
 fn forms_differ() {
     // A mapping Skip is no record, no payload and no section.
-    assert!(read_mapping(&[5], &mut [0; 3]).is_ok());
+    assert!(read_mapping(&[5], &mut [0; ROW_WIDTH]).is_ok());
     assert_eq!(
-        read_metadata(&[5], &mut [0; 3]).unwrap_err(),
+        read_metadata(&[5], &mut [0; ROW_WIDTH]).unwrap_err(),
         Refusal::new(6, 0)
     );
     assert_eq!(
-        read_payload(&[5], &mut [0; 3]).unwrap_err(),
+        read_payload(&[5], &mut [0; ROW_WIDTH]).unwrap_err(),
         Refusal::new(5, 1)
     );
     assert_eq!(
-        read_section(&[5], &mut [0; 3]).unwrap_err(),
+        read_section(&[5], &mut [0; ROW_WIDTH]).unwrap_err(),
         Refusal::new(2, 0)
     );
 }

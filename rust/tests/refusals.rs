@@ -3,7 +3,9 @@
 mod common;
 
 use common::{custom_sql, entry, function, hex, schema};
-use pgrxsc::{path_pairs, read_mapping, read_payload, read_section, Refusal, Table, LIMIT};
+use pgrxsc::{
+    path_pairs, read_mapping, read_payload, read_section, Refusal, RefusalKind, Table, LIMIT,
+};
 use std::collections::HashSet;
 use std::error::Error;
 
@@ -104,8 +106,7 @@ fn sentences() {
         (
             18,
             0,
-            "the archive refused for a reason that this crate does not know, at byte 0 \
-             (refusal 18)",
+            "the reason at byte 0 is one that this crate does not know (refusal 18)",
         ),
     ] {
         assert_eq!(Refusal::new(number, place).to_string(), sentence);
@@ -132,6 +133,25 @@ fn a_sentence_for_each() {
         sentences.insert(reason.to_string());
     }
     assert_eq!(sentences.len(), 17);
+}
+
+#[test]
+fn names() {
+    for number in 1..=17 {
+        let kind = Refusal::new(number, 5).kind().unwrap();
+        assert_eq!(kind.number(), number);
+        assert_eq!(RefusalKind::from_number(number), Some(kind));
+    }
+    for number in [0, 18, u32::MAX] {
+        assert_eq!(RefusalKind::from_number(number), None);
+        assert_eq!(Refusal::new(number, 5).kind(), None);
+    }
+
+    let kind = |section: &[u8]| Table::new().read_section(section).unwrap_err().kind();
+    assert_eq!(kind(&[1]), Some(RefusalKind::PartialLength));
+    assert_eq!(kind(&entry(&[10])), Some(RefusalKind::UnknownKind));
+    let refusal = read_section(&entry(&schema("", "", "", 0)), &mut []).unwrap_err();
+    assert_eq!(refusal.kind(), Some(RefusalKind::TableTooSmall));
 }
 
 #[test]

@@ -2,10 +2,14 @@
 
 mod common;
 
-use common::{entry, function, schema};
+use common::{entry, function, rows, schema};
 use pgrxsc::{
-    read_mapping, read_metadata, read_payload, read_section, table_len, Refusal, Sort, Table, LIMIT,
+    read_mapping, read_metadata, read_payload, read_section, table_len, Refusal, Sort, Table,
+    LIMIT, ROW_WIDTH,
 };
+
+/// How many numbers the rows of `section` have.
+const NUMBERS: usize = 5 * ROW_WIDTH;
 
 /// One schema: five rows.
 fn section() -> Vec<u8> {
@@ -14,7 +18,7 @@ fn section() -> Vec<u8> {
 
 #[test]
 fn too_small() {
-    for len in 0..15 {
+    for len in 0..NUMBERS {
         let mut table = vec![7; len];
         let refusal = read_section(&section(), &mut table).unwrap_err();
         assert_eq!(refusal, Refusal::new(13, 0), "{len}");
@@ -24,14 +28,14 @@ fn too_small() {
 
 #[test]
 fn just_large_enough_and_more() {
-    for len in 15..20 {
+    for len in NUMBERS..NUMBERS + 2 * ROW_WIDTH {
         let section = section();
         let mut table = vec![7; len];
         let reading = read_section(&section, &mut table).unwrap();
-        assert_eq!(reading.numbers().len(), 15);
-        assert_eq!(table[..3], [1, 4, 1]);
-        assert_eq!(table[12..15], [4, 21, 0]);
-        assert_eq!(table[15..], vec![0; len - 15]);
+        assert_eq!(reading.numbers().len(), NUMBERS);
+        let rows = rows(reading);
+        assert_eq!((rows[0], rows[4]), ((1, 4, 1), (4, 21, 0)));
+        assert_eq!(table[NUMBERS..], vec![0; len - NUMBERS]);
     }
 }
 
@@ -39,10 +43,10 @@ fn just_large_enough_and_more() {
 fn other_refusals_come_first() {
     let mut bytes = section();
     bytes.push(9);
-    let mut table = [7; 4];
+    let mut table = [7; ROW_WIDTH + 1];
     let refusal = read_section(&bytes, &mut table).unwrap_err();
     assert_eq!(refusal, Refusal::new(2, 25));
-    assert_eq!(table, [0; 4]);
+    assert_eq!(table, [0; ROW_WIDTH + 1]);
 }
 
 #[test]
@@ -53,22 +57,27 @@ fn no_table_for_no_rows() {
 
 #[test]
 fn readings_alone() {
-    let thirteen = Refusal::new(13, 0);
+    let thirteen = Some(Refusal::new(13, 0));
+    let mut table = [0; 6 * ROW_WIDTH];
+    // A table of that many rows, or of a number less.
+    let mut tables = |rows: usize, read: &dyn Fn(&mut [u32]) -> Option<Refusal>| {
+        let len = rows * ROW_WIDTH;
+        [read(&mut table[..len - 1]), read(&mut table[..len])]
+    };
     let payload = schema("", "", "", 0);
-    assert_eq!(read_payload(&payload, &mut [0; 14]).unwrap_err(), thirteen);
-    assert!(read_payload(&payload, &mut [0; 15]).is_ok());
-    let record = [0, 1, 5, 1, 1, 5];
-    assert_eq!(read_metadata(&record, &mut [0; 17]).unwrap_err(), thirteen);
-    assert!(read_metadata(&record, &mut [0; 18]).is_ok());
-    assert_eq!(read_mapping(&[5], &mut [0; 2]).unwrap_err(), thirteen);
-    assert!(read_mapping(&[5], &mut [0; 3]).is_ok());
+    let payload = tables(5, &|table| read_payload(&payload, table).err());
+    assert_eq!(payload, [thirteen, None]);
+    let record = tables(6, &|table| read_metadata(&[0, 1, 5, 1, 1, 5], table).err());
+    assert_eq!(record, [thirteen, None]);
+    let mapping = tables(1, &|table| read_mapping(&[5], table).err());
+    assert_eq!(mapping, [thirteen, None]);
 }
 
 #[test]
 fn length_at_most() {
     assert_eq!(table_len(&[]), 0);
-    assert_eq!(table_len(&[0; 7]), 21);
-    assert_eq!(table_len(&vec![0; LIMIT + 1]), 3 * LIMIT);
+    assert_eq!(table_len(&[0; 7]), 7 * ROW_WIDTH);
+    assert_eq!(table_len(&vec![0; LIMIT + 1]), LIMIT * ROW_WIDTH);
 }
 
 #[test]

@@ -5,8 +5,8 @@ mod common;
 #[path = "../examples/list.rs"]
 mod list;
 
-use common::{hex, numbers, sentinel};
-use pgrxsc::{read_metadata, sql_text, write_metadata, SQL_TEXT_SIZE};
+use common::{hex, rows, sentinel};
+use pgrxsc::{read_metadata, sql_text, write_metadata, ROW_WIDTH, SQL_TEXT_SIZE};
 
 fn listing(section: &[u8]) -> String {
     let mut out = Vec::new();
@@ -52,18 +52,18 @@ fn refused() {
 #[test]
 fn metadata_of_skip() {
     let record = hex("00 01 05 01 01 05");
-    let mut table = [0; 18];
+    let mut table = [0; 6 * ROW_WIDTH];
     let reading = read_metadata(&record, &mut table).unwrap();
     assert_eq!(reading.entities().len(), 0);
     assert_eq!(
-        numbers(reading),
+        rows(reading),
         [
-            [3, 0, 0],
-            [2, 1, 1],
-            [2, 2, 5],
-            [2, 3, 1],
-            [2, 4, 1],
-            [2, 5, 5]
+            (3, 0, 0),
+            (2, 1, 1),
+            (2, 2, 5),
+            (2, 3, 1),
+            (2, 4, 1),
+            (2, 5, 5)
         ]
     );
 

@@ -2,10 +2,10 @@
 
 mod common;
 
-use common::{hex, text};
+use common::{hex, rows as read_rows, table, text};
 use pgrxsc::{
-    mapping_len, metadata_len, read_mapping, read_metadata, write_mapping, write_metadata, Refusal,
-    Row, Sort, Table, LIMIT,
+    mapping_len, metadata_len, read_mapping, table_len, write_mapping, write_metadata, Refusal,
+    Row, Sort, Table, LIMIT, ROW_WIDTH,
 };
 
 fn rows(rows: &[(Sort, u32, u32)]) -> Vec<u32> {
@@ -13,6 +13,11 @@ fn rows(rows: &[(Sort, u32, u32)]) -> Vec<u32> {
         .iter()
         .map(|&(sort, offset, value)| Row::new(sort, offset, value));
     rows.flat_map(Row::numbers).collect()
+}
+
+/// The rows of a mapping As, with the text at an offset.
+fn literal(offset: u32, len: u32) -> Vec<u32> {
+    rows(&[(Sort::Tag, 0, 1), (Sort::Text, offset, len)])
 }
 
 /// A record with a resolution, as an argument As, returned a set of Numeric; its texts in turned
@@ -83,18 +88,16 @@ fn a_record() {
     let mut table = Table::new();
     let reading = table.read_metadata(&bytes).unwrap();
     assert_eq!(reading.texts().collect::<Vec<_>>(), ["ident", "TEXTid"]);
-    let written = rows.chunks(3).map(|row| (row[0], row[2]));
-    assert!(reading
-        .rows()
-        .map(|row| (row.sort.number(), row.value))
-        .eq(written));
+    let written = rows.chunks(ROW_WIDTH).map(|row| (row[0], row[2]));
+    let read = read_rows(reading).into_iter();
+    assert!(read.map(|(sort, _, value)| (sort, value)).eq(written));
 }
 
 #[test]
 fn what_was_read() {
     let (_, _, bytes) = record();
-    let mut table = [0; 39];
-    let reading = read_metadata(&bytes, &mut table).unwrap();
+    let mut table = Table::new();
+    let reading = table.read_metadata(&bytes).unwrap();
     let mut dest = vec![0; bytes.len()];
     let len = write_metadata(reading.numbers(), reading.bytes(), &mut dest);
     assert_eq!(len, Ok(bytes.len()));
@@ -116,7 +119,7 @@ const MAPPINGS: [&str; 8] = [
 fn mappings() {
     for mapping in MAPPINGS {
         let mapping = hex(mapping);
-        let mut table = [0; 18];
+        let mut table = vec![0; table_len(&mapping)];
         let reading = read_mapping(&mapping, &mut table).unwrap();
         let mut dest = vec![0; mapping.len()];
         let len = write_mapping(reading.numbers(), &mapping, &mut dest);
@@ -131,8 +134,8 @@ type Write = fn(&[u32], &[u8], &mut [u8]) -> Result<usize, Refusal>;
 const METADATA: (Measure, Write) = (metadata_len, write_metadata);
 const MAPPING: (Measure, Write) = (mapping_len, write_mapping);
 
-/// Asserts that this is the length, that so many bytes can be written, and that a destination of a
-/// byte less is too short.
+/// Asserts that this is the length, that this many bytes can be written, and that a destination of
+/// a byte less is too short.
 fn measured((measure, write): (Measure, Write), rows: &[u32], text: &[u8], len: usize) {
     assert_eq!(measure(rows, text), Ok(len));
     let mut dest = vec![0; len + 3];
@@ -174,12 +177,12 @@ fn lengths_of_tables() {
 fn lengths_of_mappings() {
     for mapping in MAPPINGS {
         let mapping = hex(mapping);
-        let mut table = [0; 18];
+        let mut table = vec![0; table_len(&mapping)];
         let reading = read_mapping(&mapping, &mut table).unwrap();
         measured(MAPPING, reading.numbers(), &mapping, mapping.len());
     }
     let text = vec![b'a'; 1 << 20];
-    measured(MAPPING, &[2, 0, 1, 6, 0, 1 << 20], &text, 5 + (1 << 20));
+    measured(MAPPING, &literal(0, 1 << 20), &text, 5 + (1 << 20));
 }
 
 #[test]
@@ -195,8 +198,8 @@ fn a_length_after_a_refusal() {
     assert_eq!(dest, bytes);
 }
 
-/// Asserts that the rows are refused so, and that the destination stays as it is. Unless only the
-/// destination is too short, the length is refused so too.
+/// Asserts that the rows get this refusal, and that the destination stays as it is. Unless only the
+/// destination is too short, the length gets it too.
 fn refused(rows: &[u32], text: &[u8], size: usize, number: u32) {
     let mut dest = vec![0xee; size];
     let refusal = write_mapping(rows, text, &mut dest).unwrap_err();
@@ -209,33 +212,40 @@ fn refused(rows: &[u32], text: &[u8], size: usize, number: u32) {
 
 #[test]
 fn not_one_mapping() {
-    refused(&[], b"", 9, 14);
-    refused(&[2, 0, 6], b"", 9, 14);
-    refused(&[2, 0, 257], b"", 9, 14);
-    refused(&[3, 0, 1], b"", 9, 14);
-    refused(&[2, 0, 1], b"", 9, 14);
-    refused(&[2, 0, 5, 2, 0, 5], b"", 9, 14);
-    refused(&[2, 0, 5, 0, 0, 0], b"", 9, 14);
+    let skip = (2, 0, 5);
+    let cases: [&[(u32, u32, u32)]; 7] = [
+        &[],
+        &[(2, 0, 6)],
+        &[(2, 0, 257)],
+        &[(3, 0, 1)],
+        &[(2, 0, 1)],
+        &[skip, skip],
+        &[skip, (0, 0, 0)],
+    ];
+    for rows in cases {
+        refused(&table(rows), b"", 9, 14);
+    }
     // Numbers that are no whole row.
-    refused(&[2, 0, 5, 0], b"", 9, 14);
-    refused(&[2, 0], b"", 9, 14);
+    let two = table(&[skip, skip]);
+    for len in (1..ROW_WIDTH).chain(ROW_WIDTH + 1..2 * ROW_WIDTH) {
+        refused(&two[..len], b"", 9, 14);
+    }
     // A mapping is no record.
-    let mut dest = [0; 9];
-    assert_eq!(
-        write_metadata(&[2, 0, 5], b"", &mut dest),
-        Err(Refusal::new(14, 0))
-    );
-    assert_eq!(metadata_len(&[2, 0, 5], b""), Err(Refusal::new(14, 0)));
+    let (mapping, mut dest) = (table(&[skip]), [0; 9]);
+    let refusal = Err(Refusal::new(14, 0));
+    assert_eq!(write_metadata(&mapping, b"", &mut dest), refusal);
+    assert_eq!(metadata_len(&mapping, b""), refusal);
 }
 
 #[test]
 fn texts_outside() {
-    refused(&[2, 0, 1, 6, 1, 4], b"TEXT", 9, 15);
-    refused(&[2, 0, 1, 6, 5, 0], b"TEXT", 9, 15);
-    refused(&[2, 0, 1, 6, u32::MAX, 2], b"TEXT", 9, 15);
-    refused(&[2, 0, 1, 6, 0, 1], b"\xff", 9, 15);
+    refused(&literal(1, 4), b"TEXT", 9, 15);
+    refused(&literal(5, 0), b"TEXT", 9, 15);
+    refused(&literal(u32::MAX, 2), b"TEXT", 9, 15);
+    refused(&literal(0, 1), b"\xff", 9, 15);
     // 14 comes before 15.
-    refused(&[2, 0, 1, 6, 0, 1, 2, 0, 1], b"\xff", 9, 14);
+    let rows = [literal(0, 1), table(&[(2, 0, 1)])].concat();
+    refused(&rows, b"\xff", 9, 14);
     // In a record, outside and not UTF-8.
     for text in [b"TEXTiden".as_slice(), b"TEXTiden\xff"] {
         let (rows, _, bytes) = record();
@@ -262,23 +272,20 @@ fn too_long() {
     both(&record, Err(Refusal::new(16, 0)));
 
     // The texts have 16 times 5 bytes beside their own, and the rest 9: so it is 89 above the limit.
-    let last = record.len() - 1;
-    record[last] -= 88;
+    let value = record.len() - ROW_WIDTH + 2;
+    record[value] -= 88;
     both(&record, Err(Refusal::new(16, 0)));
-    record[last] -= 1;
+    record[value] -= 1;
     both(&record, Ok(LIMIT));
 }
 
 #[test]
 fn destination_too_short() {
     for size in 0..9 {
-        refused(&[2, 0, 1, 6, 0, 4], b"TEXT", size, 17);
+        refused(&literal(0, 4), b"TEXT", size, 17);
     }
     let mut dest = [0; 9];
-    assert_eq!(
-        write_mapping(&[2, 0, 1, 6, 0, 4], b"TEXT", &mut dest),
-        Ok(9)
-    );
+    assert_eq!(write_mapping(&literal(0, 4), b"TEXT", &mut dest), Ok(9));
     // 15 comes before 17.
-    refused(&[2, 0, 1, 6, 1, 4], b"TEXT", 0, 15);
+    refused(&literal(1, 4), b"TEXT", 0, 15);
 }

@@ -1,4 +1,4 @@
-// The parts of entities that hold no type: positioning refs, to-SQL, the attributes of functions.
+// The parts of entities that contain no type: positioning refs, to-SQL, the attributes of functions.
 use leaf::Cursor;
 ghost use mathlib.Core.Path.{_≡_};
 ghost use Rattle.layout.specs.Entities.{PositioningRef, PositioningRefList, ToSqlConfig, ExternArg, ExternArgList, SearchPath, StrList};

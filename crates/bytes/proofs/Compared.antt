@@ -1,4 +1,4 @@
--- Bytes that are compared one after the other.
+-- Bytes compared one after the other.
 use Prim.Native.Nat.{ℕ, _+_, _≤_, _<_}
 use native.Mathlib.Omega.{arith}
 use mathlib.Core.Bool.{true, false, and-eq-true-iff}
@@ -17,6 +17,10 @@ same-sound (a ∷ x) [] e = let z : _≡_ {A = ℕ} 0 1 = cc in absurd (omega ar
 same-sound (a ∷ x) (b ∷ y) e =
     let (p, q) = and-eq-true-iff _ _ .0 e in
     rw (eqb-true a b p, same-sound x y q)
+
+pub same-refl : (t : List ℕ) → same t t ≡ true
+same-refl [] = refl
+same-refl (x ∷ t) = rw (eq-eqb x x refl, same-refl t)
 
 pub same-not : (a b : List ℕ) → (length a ≡ length b → ⊥) → same a b ≡ false
 same-not a b h = not-true (same a b) (λ e. h (ap length (same-sound a b e)))

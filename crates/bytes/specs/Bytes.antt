@@ -5,7 +5,7 @@ use mathlib.Core.List.{List, [], _∷_}
 use lib.Dec.{eqb}
 use Rattle.layout.specs.Reading.{enough, numberAt}
 
--- The number whose four bytes begin at a place of s, 0 where fewer are left
+-- The number whose four bytes begin at a place of s; 0 if fewer are left
 unfoldable pub numberOr0 : List ℕ → (place : ℕ) → ℕ
 numberOr0 s at = cond (enough s at 4) (numberAt s at) 0
 

@@ -1,4 +1,4 @@
-// Bytes: a number read from them or stored among them, and two slices compared.
+// Bytes: reading a number from them, storing one in them, and comparing two slices.
 ghost use Prim.Native.Nat.{_+_, _<_, _≤_};
 ghost use mathlib.Core.Path.{_≡_};
 ghost use lib.ListN.{length};
@@ -14,7 +14,7 @@ pub fn wide(x: u8) -> u32
     x as u32
 }
 
-// The number whose four bytes begin at a place, the lowest first; 0 where fewer are left.
+// The number whose four bytes begin at a place, lowest byte first; 0 if fewer are left.
 pub fn number_at(s: &[u8], at: usize) -> u32
     ensures { λ r. ⌜ r ≡ numberOr0 (now (s .entry)) at ⌝ }
 {
@@ -27,7 +27,7 @@ pub fn number_at(s: &[u8], at: usize) -> u32
     four_at(s, at)
 }
 
-// The same where four bytes are left.
+// The same, if four bytes are left.
 fn four_at(s: &[u8], at: usize) -> u32
     requires { ⌜ at + 4 ≤ length (now s) ⌝ }
     ensures { λ r. ⌜ r ≡ numberAt (now (s .entry)) at ⌝ }
@@ -55,7 +55,7 @@ pub fn same(a: &[u8], b: &[u8]) -> bool
     true
 }
 
-// Stores the four bytes of a number in dest from a place on, the lowest first, if they fit there; else dest stays as it is.
+// Stores the four bytes of a number in dest from a place on, lowest byte first, if they fit there; else dest is unchanged.
 pub fn put_number(dest: &mut [u8], at: usize, n: u32)
     ensures { λ r. ⌜ now (dest .exit) ≡ pasted (now (dest .entry)) at (four n) ⌝ }
 {
@@ -68,7 +68,7 @@ pub fn put_number(dest: &mut [u8], at: usize, n: u32)
     put_four(dest, at, n)
 }
 
-// The same where they fit.
+// The same, if they fit.
 fn put_four(dest: &mut [u8], at: usize, n: u32)
     requires { ⌜ at + 4 ≤ length (now dest) ⌝ }
     ensures { λ r. ⌜ now (dest .exit) ≡ pasted (now (dest .entry)) at (four n) ⌝ }

@@ -10,7 +10,8 @@
 //   then the buffer, and number and place of the call that filled it.
 // - O is a section as objects. Its number is 0. The answer is `accept`, the number of entities, and the objects' fields one after
 //   the other: a text as its bytes, any other field as a number of four bytes. Or it is `refuse`.
-// - R is the path report. Its number is 0. The answer is 0, 0 and how many pairs there are; or a refusal's number and place.
+// - R is the path report. The number is that of the numbers lent as work. The answer is 0, 0 and how many pairs there are; or a
+//   refusal's number and place.
 // - W is the writing of a metadata record, and w that of one mapping. The numbers are the destination's size, how many numbers
 //   the table has, and these; the bytes are the lent text. The answer is 0, 0 and the length, or a refusal's number and place;
 //   then the whole destination.
@@ -34,7 +35,7 @@ use text::State;
 ghost use Prim.Native.Nat.{_≤_};
 ghost use lib.ListN.{length};
 
-// So many cases are too many.
+// More cases than a run takes.
 const TOO_MANY: usize = 1000000;
 
 // The most rows that a case may ask for, and the numbers of a table that has them and nearly one row more.
@@ -123,7 +124,7 @@ impl Counts {
         }
     }
 
-    // With one case more, of so many bytes, and the tally after it.
+    // With one case more, which has that many bytes, and the tally after it.
     fn ran(self, bytes: usize, tally: Tally) -> Counts {
         Counts {
             cases: more(self.cases),
@@ -160,7 +161,7 @@ fn print_count(name: &[u8], n: u64) {
     io::write_all(STDOUT_FILENO, b"\n");
 }
 
-// Reads the next case to the start of line, and the end of its line behind it, and answers the case's length.
+// Reads the next case to the start of line, and the end of its line after it, and answers the case's length.
 fn read_case(line: &mut [u8]) -> usize {
     let mut head = [0u8; LENGTH_DIGITS + 1];
     let n = io::read_full(STDIN_FILENO, &mut head);
@@ -199,7 +200,7 @@ fn read_line(line: &mut [u8], size: usize) -> usize {
 // Runs a case, the one with that number, and counts it.
 fn run(case: &[u8], number: usize, space: &mut [u8], counts: Counts) -> Counts {
     let mut numbers = [0u32; CASE_NUMBERS];
-    let n = parse(behind(case), &mut numbers, space, counts.bytes);
+    let n = parse(after(case), &mut numbers, space, counts.bytes);
     run_parsed(case, number, &numbers, space, n, counts)
 }
 
@@ -221,7 +222,7 @@ fn run_parsed(
     let ran = answer(letter, numbers, number, &space[..n], &mut out, tally);
     let end = ran.end;
     let tally = ran.tally;
-    let right = behind(behind(behind(case)));
+    let right = after(after(after(case)));
     judge(case, right, start_of(&out, end), counts.ran(n, tally))
 }
 
@@ -274,8 +275,8 @@ fn field<'a>(s: &'a [u8]) -> &'a [u8] {
     &s[..k]
 }
 
-// What stands behind the first blank.
-fn behind<'a>(s: &'a [u8]) -> &'a [u8] {
+// What stands after the first blank.
+fn after<'a>(s: &'a [u8]) -> &'a [u8] {
     let k = blank(s);
     if k < s.len() {
         let next = k + 1;
@@ -287,7 +288,7 @@ fn behind<'a>(s: &'a [u8]) -> &'a [u8] {
 // Parses the numbers and the bytes of a case, and answers how many bytes there are.
 fn parse(s: &[u8], numbers: &mut [u32; CASE_NUMBERS], space: &mut [u8], before: usize) -> usize {
     if parse_numbers(field(s), numbers) {
-        return parse_bytes(field(behind(s)), space, before);
+        return parse_bytes(field(after(s)), space, before);
     }
     BAD
 }
@@ -303,7 +304,7 @@ fn parse_numbers(s: &[u8], out: &mut [u32]) -> bool {
     i < out.len()
 }
 
-// Takes a digit of the number at i, or the comma behind it, and answers the place of the number that goes on; the length of out
+// Takes a digit of the number at i, or the comma after it, and answers the place of the number that goes on; the length of out
 // where none can.
 fn parse_digit(out: &mut [u32], i: usize, c: u8) -> usize {
     if out.len() <= i {
@@ -324,7 +325,7 @@ fn parse_digit(out: &mut [u32], i: usize, c: u8) -> usize {
     i
 }
 
-// Puts the bytes of a field into out, where so many stand from the case before, and answers their number.
+// Puts the bytes of a field into out, where those of the case before still stand, and answers their number.
 fn parse_bytes(s: &[u8], out: &mut [u8], before: usize) -> usize {
     if check::same(s, b"-") {
         return 0;
@@ -431,7 +432,7 @@ fn answer_other(
         b'N' => sql_name(numbers, s, out),
         b'Q' => sql_text(numbers, s, out),
         b'O' => objects(s, out),
-        b'R' => path_report(s, out),
+        b'R' => path_report(numbers, s, out),
         b'W' | b'w' | b'V' | b'v' => write(letter, numbers, s, out),
         b'U' => text_check(s, out),
         _ => bad_case(out),
@@ -443,7 +444,7 @@ fn bad_case(out: &mut [u8; OUT_SIZE]) -> usize {
     put(out, 0, b"bad case")
 }
 
-// A reading with a table of so many rows, and up to nearly one row more.
+// A reading with a table of that many rows, and up to nearly one row more.
 fn read(
     letter: u8,
     rows: usize,
@@ -508,7 +509,7 @@ fn spell_counts(entities: usize, rows: usize, out: &mut [u8; OUT_SIZE]) -> usize
     put_number(out, end, rows as u64)
 }
 
-// Puts the two 0 of what is not refused, and the number behind them.
+// Puts the two 0 of what is not refused, and the number after them.
 fn spell_accepted(n: u64, out: &mut [u8; OUT_SIZE]) -> usize {
     let end = put(out, 0, b"0 0");
     put_number(out, end, n)
@@ -611,8 +612,17 @@ fn put_four(out: &mut [u8; OUT_SIZE], at: usize, n: u32) -> usize {
     put_digits(out, at, &bytes)
 }
 
-fn path_report(s: &[u8], out: &mut [u8; OUT_SIZE]) -> usize {
-    let report = paths::path_report(s);
+// The path report, with as many numbers of work as the case asks for.
+fn path_report(numbers: &[u32; CASE_NUMBERS], s: &[u8], out: &mut [u8; OUT_SIZE]) -> usize {
+    let size = wide_number(numbers[0]) as usize;
+    if MOST_NUMBERS < size {
+        return bad_case(out);
+    }
+    let mut work = [FILL; MOST_NUMBERS];
+    spell_report(paths::path_report(s, &mut work[..size]), out)
+}
+
+fn spell_report(report: PathReport, out: &mut [u8; OUT_SIZE]) -> usize {
     match report {
         PathReport::Counted { pairs } => spell_accepted(pairs, out),
         PathReport::Refused(refusal) => put_refusal(out, 0, refusal),
@@ -744,7 +754,7 @@ fn ends_a_character(q: State) -> bool {
     if let State::Start = q { true } else { false }
 }
 
-// Each of these puts something into out from the place at on, as far as there is room, and answers the place behind it. A blank
+// Each of these puts something into out from the place at on, as far as there is room, and answers the place after it. A blank
 // is put between two of numbers and bytes.
 fn put(out: &mut [u8; OUT_SIZE], at: usize, s: &[u8]) -> usize {
     let mut end = at;

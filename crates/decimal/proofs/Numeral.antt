@@ -12,7 +12,7 @@ use borrow.Author.Tests.{ltb-true, ltb-false, lt-ltb, le-ltb}
 use Rattle.decimal.specs.Decimal.{digit, digitsIn, decimal}
 use Rattle.decimal.specs.Theorems.{Decimal-step, Decimal-some, Decimal-most}
 
--- More steps than a number is large are enough
+-- More steps than the number itself are enough
 enough : (j k n : ℕ) → n < j → n < k → digitsIn j n ≡ digitsIn k n
 enough zero k n a b = absurd (omega arith)
 enough (suc j) zero n a b = absurd (omega arith)
@@ -81,7 +81,7 @@ abbrev pub lastDigits : (k n : ℕ) → List ℕ
 lastDigits zero n = []
 lastDigits (suc k) n = lastDigits k (n / 10) ++ (digit (n % 10) ∷ [])
 
--- All digits are the last ones, as many as there are
+-- All digits are the last ones, if all are counted
 pub all-last : (n : ℕ) → lastDigits (length (decimal n)) n ≡ decimal n
 all-last n = go (suc n) n (omega arith)
   where
@@ -100,7 +100,7 @@ all-last n = go (suc n) n (omega arith)
             let l : length (decimal m) ≡ suc (length (decimal (m / 10))) = omega (arith, length-from-ten m t) in
             rw (l, i t) (sym (from-ten m t))
 
--- Digits are written from the last one on: what is left to write, then what is written
+-- Digits are written from the last one on: those left to write, then those written
 drop-replicate : (k m a : ℕ) → drop k (replicate m a) ≡ replicate (m - k) a
 drop-replicate zero m a = rw sub-zero
 drop-replicate (suc k) zero a = rw zero-sub
@@ -128,6 +128,6 @@ all-written (suc i) rest bytes out h e = absurd (omega arith)
 pub digits-taken : (n k : ℕ) (bytes : List ℕ) → bytes ≡ decimal n ++ replicate (20 - length (decimal n)) 0 → k ≡ length (decimal n) → take k bytes ≡ decimal n
 digits-taken n k bytes e l = rw (e, l) (take-append-seam (decimal n) (replicate (20 - length (decimal n)) 0))
 
--- And lie within its bytes
+-- And they lie within its bytes
 pub digits-fit : (n k : ℕ) (bytes : List ℕ) → bytes ≡ decimal n ++ replicate (20 - length (decimal n)) 0 → k ≡ length (decimal n) → k ≤ length bytes
 digits-fit n k bytes e l = rw (e, l) (simp length-append (omega arith))

@@ -8,7 +8,8 @@ use lib.Dec.{ltb}
 abbrev pub digit : ℕ → ℕ
 digit d = 48 + d
 
--- The digits of n in so many steps: n itself if it is below ten; else the digits of its tenth part, then its last digit
+-- The digits of n in at most the given number of steps: n itself if it is below ten; else the digits of n / 10, then its last
+-- digit
 abbrev pub digitsIn : (steps n : ℕ) → List ℕ
 digitsIn zero n = []
 digitsIn (suc k) n = cond (ltb n 10) (digit n ∷ []) (digitsIn k (n / 10) ++ (digit (n % 10) ∷ []))

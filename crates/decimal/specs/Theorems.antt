@@ -1,4 +1,4 @@
--- What is proved of the digits, as statements. Each comment names the proof, in proofs/Numeral.antt.
+-- The theorems about the digits, as statements. Each comment names the proof, in proofs/Numeral.antt.
 use Prim.Native.Nat.{ℕ, _/_, _%_, _^_, _≤_, _<_}
 use mathlib.Core.Bool.{cond}
 use mathlib.Core.List.{[], _∷_, _++_}
@@ -7,11 +7,11 @@ use lib.Dec.{ltb}
 use lib.ListN.{length}
 use Rattle.decimal.specs.Decimal.{digit, decimal}
 
--- A number below ten is its own digit; any other has the digits of its tenth part, then its last digit: `decimal-step`
+-- A number below ten is its own digit; any other has the digits of its tenth, then its last digit: `decimal-step`
 abbrev pub Decimal-step : Type 0
 Decimal-step = (n : ℕ) → decimal n ≡ cond (ltb n 10) (digit n ∷ []) (decimal (n / 10) ++ (digit (n % 10) ∷ []))
 
--- There is a digit at least: `decimal-some`
+-- There is at least one digit: `decimal-some`
 abbrev pub Decimal-some : Type 0
 Decimal-some = (n : ℕ) → 1 ≤ length (decimal n)
 

@@ -5,16 +5,16 @@ ghost use Prim.Native.Nat.{_-_, _%_};
 ghost use lib.ListN.{length, replicate};
 ghost use Rattle.decimal.specs.Decimal.{digit, decimal};
 
-// The most digits of a number of 64 bits.
+// The most digits of a 64-bit number.
 pub const MOST_DIGITS: usize = 20;
 
-// The digits of a number, then only 0; and how many digits there are.
+// The digits of a number, then only 0; and the number of digits.
 pub struct Digits {
     pub bytes: [u8; MOST_DIGITS],
     pub len: usize,
 }
 
-// The digits of n, the first one not 0 unless n is.
+// The digits of n, without leading zeros; 0 has one digit.
 pub fn decimal(n: u64) -> Digits
     ensures { λ r. ⌜ (r .bytes ≡ decimal n ++ replicate (20 - length (decimal n)) 0) × (r .len ≡ length (decimal n)) ⌝ }
 {

@@ -1,4 +1,4 @@
--- The result of a declaration: the verdict on its leaves by its first two bytes.
+-- The result of a declaration: the verdict on its leaves from its first two bytes.
 use Prim.Native.Nat.{ℕ, _+_, _≤_}
 use native.Mathlib.Omega.{arith}
 use mathlib.Core.Bool.{Bool, true, false}
@@ -19,7 +19,7 @@ use Rattle.layout.proofs.Forms.{check-law}
 use Rattle.leaf.proofs.Still.{Refused, pass-refused}
 use Rattle.leaf.proofs.Reading.{case-read}
 
--- What a table of tags has read: a tag that is known, and what follows it
+-- What is read by a table of tags: a known tag, and what follows it
 record Tagged (rows : Tags) (s : List ℕ) (at : ℕ) (ls : List Leaf) (next : ℕ) : Type 0 where
   left : at + 1 ≤ length s
   others : List Leaf
@@ -50,13 +50,13 @@ tagged rows s at ls next h = go (enough s at 1) refl (sym (read-case Tag nothing
     go true e q = verdict (known unknown-tag rows (getD s at 0)) (leb-true _ _ e) (rw (read-nothing s (at + 1)) at q)
     go false e q = absurd (not-ok q)
 
--- A result that was refused is not judged
+-- A refused result is not judged
 pub result-refused : (s : List ℕ) (st st₁ : ReadState) → st₁ ≡ run ArgumentSql s st → Refused st₁ → st₁ ≡ run DeclaredSql s st
 unfolding DeclaredSql
 result-refused s st st₁ e h =
     check-law ArgumentSql resultVerdict (reader s) st st₁ st₁ e (sym (pass-refused s (verdictOn resultVerdict (read ArgumentSql s (st .cursor .at))) st st₁ h))
 
--- Of a result that was read: its first byte, and where that is Ok the next
+-- For a result that was read: its first byte and, if that is Ok, the next
 module _ (s : List ℕ) (st st₁ : ReadState) (e : st₁ ≡ run ArgumentSql s st) (z : st₁ .cursor .refusal ≡ 0) where
   abbrev at : ℕ
   at = st .cursor .at

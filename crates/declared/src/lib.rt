@@ -27,7 +27,7 @@ pub fn read_declared_type(c: Cursor, s: &[u8], t: &mut [u32]) -> Cursor
     read_declared_sql(c, s, t) // sql
 }
 
-// The result of a declaration: it is read whole, and then it must be a mapping As or Numeric.
+// The result of a declaration: it is read in full, and must then be a mapping As or Numeric.
 pub fn read_declared_sql(c: Cursor, s: &[u8], t: &mut [u32]) -> Cursor
     ensures { λ r. ⌜ readState r (now (t .exit)) ≡ run DeclaredSql (now (s .entry)) (readState c (now (t .entry))) ⌝ }
 {

@@ -1,4 +1,4 @@
--- Runs of fields that one private function reads. No public contract cites anything here.
+-- Groups of fields that one private function reads; no public contract cites them.
 use Rattle.layout.specs.Layout.{Layout, text, _then_}
 use Rattle.layout.specs.Forms.{number, flag}
 use Rattle.layout.specs.Entities.{OptionStr, OptionUsedType, OptionFinalizeModify, OptionParallelOption, OptionAggregateTypeList, AggregateType, AggregateTypeList, PgExternArgumentList, PgExternReturn, ExternArgList, SearchPath, OptionOperator, OptionCast}

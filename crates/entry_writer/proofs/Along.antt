@@ -1,4 +1,4 @@
--- What holds of each leaf with its row.
+-- Properties of each leaf with its row.
 use Prim.Native.Nat.{ℕ, _+_, _≤_, _<_}
 use native.Mathlib.Omega.{arith}
 use mathlib.Core.Bool.{Bool, true, false}
@@ -23,7 +23,7 @@ module _ (Q : ℕ → Leaf → Type 0) where
       let e : i + 1 + length a ≡ i + length (x ∷ a) = omega arith in
       ((g .0, h), subst (λ (j : ℕ). Along Q j b) e k)
 
-  -- So of each row
+  -- Hence of each row
   pub along-at : (P : ℕ → Type 0) → ((i : ℕ) (x : Leaf) → Q i x → P i) → (i : ℕ) (ls : List Leaf) → Along Q i ls → (k : ℕ) → i ≤ k → k < i + length ls → P k
   along-at P f i [] h k a b = absurd (omega arith)
   along-at P f i (x ∷ ls) h k a b = go (eqb k i) refl (λ c. along-at P f (i + 1) ls (h .1) k c (omega arith))

@@ -1,4 +1,4 @@
--- A measuring and a writing keep their promises in terms of what the rows spell.
+-- Measuring and writing meet their contracts in terms of what the rows spell.
 use Prim.Native.Nat.{ℕ, _≤_}
 use native.Mathlib.Omega.{arith}
 use mathlib.Core.List.{List}
@@ -19,7 +19,7 @@ use Rattle.entry_writer.specs.Refusals.{Writable, WriteRefusal, ExactWri
 use Rattle.entry_writer.specs.Theorems.{Exact-length, Exact-writing}
 use Rattle.entry_writer.proofs.Spelled.{write-exact, spells-proper, write-refused}
 
--- What is answered is what is written
+-- The answer is that of the writing
 counted-is : (o : Outcome ℕ (List ℕ)) (n : ℕ) → lengthIn o ≡ counted n → (b : List ℕ) × (o ≡ ok b n)
 counted-is (ok b k) n e = (b, cc)
 counted-is (refuse k p) n e = let z : _≡_ {A = ℕ} 0 1 = cc in absurd (omega arith)
@@ -28,7 +28,7 @@ refused-is : (o : Outcome ℕ (List ℕ)) (n p : ℕ) → lengthIn o ≡ uncount
 refused-is (ok b k) n p e = let z : _≡_ {A = ℕ} 0 1 = cc in absurd (omega arith)
 refused-is (refuse k q) n p e = cc
 
--- What is measured is what is written to a destination of the limit's size
+-- Measuring is writing to a destination of the limit's size
 measured-small : (L : Layout) (rows text : List ℕ) → All (λ b n. n ≤ limit) (measured L rows text)
 unfolding measured
 measured-small L rows text =
@@ -86,6 +86,6 @@ exact-writing L rows text dest = record {
   proper = proper L rows text;
 }
 
--- And so does what equals it
+-- And so does any result equal to it
 pub exact-as : (L : Layout) (rows text dest : List ℕ) (l : Total) (after : List ℕ) → l ≡ lengthIn (write L rows text (length dest)) → after ≡ written (write L rows text (length dest)) dest → ExactWriting L rows text dest l after
 exact-as L rows text dest l after e f = rw (e, f) (exact-writing L rows text dest)

@@ -1,4 +1,4 @@
--- A writing from the first row on: what it comes to by the rows, and its length at the end.
+-- A writing from the first row on: its result in terms of the rows, and its length at the end.
 use Prim.Native.Nat.{ℕ, suc, _+_, _*_, _≤_, _<_}
 use native.Mathlib.Nat.{add-zero}
 use native.Mathlib.Omega.{arith}
@@ -24,16 +24,16 @@ use Rattle.entry_writer.proofs.Still.{goes-on, writer-still}
 use Rattle.entry_writer.proofs.Spelled.{plain-not-text, Given, given-there, whole-rows, walk-sound, good-sound}
 
 module _ (rows text : List ℕ) where
-  -- A text is found good
+  -- The writer finds a text good
   abbrev passes : List ℕ → EntryWriter → Bool
   passes t w = staysAt rows text (w .row) && utf8 t
 
-  -- A leaf is taken from the row where the writer stands
+  -- A leaf is taken from the writer's next row
   abbrev push : Leaf → EntryWriter → EntryWriter
   push (plain srt n) w = past n (length (leafBytes (plain srt n))) w
   push (string t) w = pastText (passes t w) t w
 
-  -- How a writer goes through rows
+  -- How a writer moves through rows
   abbrev gait : Gait (inRows rows text) EntryWriter
   gait = record {
     at = λ w. w .row;
@@ -100,7 +100,7 @@ not-and : (a b : Bool) → not (a && b) ≡ (not a || not b)
 not-and true b = refl
 not-and false b = refl
 
--- A length that stops above the limit
+-- A length that stops just above the limit
 abbrev cap : ℕ → ℕ
 cap n = cond (leb n limit) n (limit + 1)
 
@@ -116,11 +116,11 @@ module _ (rows text : List ℕ) where
   row-after (plain srt n) w = refl
   row-after (string t) w = text-row rows text (passes rows text t w) t w
 
-  -- A row of another sort is not asked
+  -- A row of another sort counts as good
   plain-good : (srt : Sort) (i : ℕ) → sortAt rows i ≡ sortNumber srt → goodAt rows text i ≡ true
   plain-good srt i e = rw (e, ne-eqb (sortNumber srt) textSort (plain-not-text srt))
 
-  -- A text is found good where its row is
+  -- The writer finds a text good exactly if its row is
   found-good : (t : List ℕ) (w : EntryWriter) → RowGives rows text (w .row) (string t) → passes rows text t w ≡ goodAt rows text (w .row)
   found-good t w g = rw (eq-eqb (sortAt rows (w .row)) textSort (g .0), g .1)
 
@@ -137,7 +137,7 @@ module _ (rows text : List ℕ) where
       go true = sym (or-false (w .bad))
       go false = sym (or-true (w .bad))
 
-  -- So at the end it is known whether a text was bad
+  -- So at the end it is known whether any text was bad
   bad-end : (ls : List Leaf) (w : EntryWriter) → w .bad ≡ not (goodRows rows text (w .row)) → Given rows text (w .row) ls
       → pushAll (push rows text) ls w .bad ≡ not (goodRows rows text (w .row + length ls))
   bad-end [] w b g = rw (add-zero (w .row)) b
@@ -200,7 +200,7 @@ finished-by L rows text v end w z r b p = rw (z, r) (whole (eqb (rowWidth * end)
     whole true e = rw (b (eqb-true _ _ e)) (good (goodRows rows text (wholeRows rows)) refl)
     whole false e = refl
 
--- The end of a writing that was refused
+-- The end of a refused writing
 closing-refused : (rows : List ℕ) (w : EntryWriter) → w .refusal ≡ 14 → closing rows w ≡ uncounted 14 0
 unfolding closing
 closing-refused rows w e = rw e
@@ -225,7 +225,7 @@ module _ (L : Layout) (rows text : List ℕ) where
       let t : 0 + length (bytesOf ls) ≡ length (bytesOf ls) = omega arith in
       ap (λ (x : EntryWriter). x .pos) q ∙ pos-end rows text ls newWriter 0 refl (b .gives) (λ k a i. good-sound rows text (wholeRows rows) w k (given-there rows text 0 ls (b .gives) k a i)) ∙ ap cap t)
 
--- The measuring of a value: 14 to 16, or the length
+-- Measuring a value: 14 to 16, or the length
 pub measured-law : (L : Layout) (rows text : List ℕ) → closing rows (consume L rows text newWriter) ≡ lengthIn (measured L rows text)
 unfolding measured spelled
 measured-law L rows text = by-outcome L rows text (walk (inRows rows text) L 0) refl (writes rows text L newWriter refl)

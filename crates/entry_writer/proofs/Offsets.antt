@@ -1,4 +1,4 @@
--- Tables that differ only in the offsets of other rows than texts are written alike.
+-- Tables that differ only in the offsets of rows other than text rows are written alike.
 use Prim.Native.Nat.{ℕ, _/_, _<_}
 use native.Mathlib.Omega.{arith}
 use mathlib.Core.List.{List}

@@ -1,4 +1,4 @@
--- What the two passes over the rows come to, from what the functions promise that make them.
+-- The results of the two passes over the rows, from the contracts of the functions that make them.
 use Prim.Native.Nat.{ℕ}
 use native.Mathlib.Omega.{arith}
 use mathlib.Core.Bool.{Bool, true, false, cond}
@@ -20,7 +20,7 @@ use Rattle.entry_writer.proofs.Spelled.{write-exact}
 use Rattle.entry_writer.proofs.Stored.{spells-gives}
 use Rattle.entry_writer.proofs.Exact.{exact-length, exact-as}
 
--- 17 is all that comes after the length
+-- After the length, only 17 is left
 write-length : (L : Layout) (rows text : List ℕ) (size : ℕ) → fitting (lengthIn (measured L rows text)) size ≡ lengthIn (write L rows text size)
 unfolding write
 write-length L rows text size = go (measured L rows text)
@@ -43,7 +43,7 @@ first-pass L rows text w r l a b e =
     (q, subst (ExactLength L rows text) (sym q) (exact-length L rows text))
 
 module _ (L : Layout) (rows text dest : List ℕ) (m l : Total) (e : m ≡ lengthIn (measured L rows text)) (f : l ≡ fitting m (length dest)) where
-  -- The length and the destination that a writing promises
+  -- The length and the destination that the contract of a writing requires
   abbrev Encoded : (after : List ℕ) → Type 0
   Encoded after =
       (l ≡ lengthIn (write L rows text (length dest))) × ((after ≡ written (write L rows text (length dest)) dest) × ExactWriting L rows text dest l after)

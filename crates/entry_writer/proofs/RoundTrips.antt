@@ -14,7 +14,7 @@ use Rattle.layout.specs.Answers.{Answer, accepted, Result, wholeRows, acceptanc
 use Rattle.layout.specs.Alone.{given, Derives}
 use Rattle.layout.specs.ReadAlone.{readingAlone}
 use Rattle.layout.proofs.Alone.{alone-complete, alone-exact}
-use Rattle.layout.proofs.InBytes.{behind}
+use Rattle.layout.proofs.InBytes.{rest-after}
 use Rattle.layout.proofs.Rows.{rows-length}
 use Rattle.layout.proofs.Each.{each-of}
 use Rattle.layout.proofs.Walk.{meets-map}
@@ -25,7 +25,7 @@ use Rattle.entry_writer.specs.Theorems.{ReadsBack, Read-written, Write-r
 use Rattle.entry_writer.proofs.Along.{along-at, along-map, along-both, along-also}
 use Rattle.entry_writer.proofs.Spelled.{plain-not-text, whole-rows, spells-proper, write-exact}
 
--- A row gives a leaf, of a text all its bytes
+-- A row gives a leaf; for a text, all its bytes
 abbrev Holds : (rows text : List ℕ) → (row : ℕ) → Leaf → Type 0
 Holds rows text i (plain srt n) = RowGives rows text i (plain srt n)
 Holds rows text i (string t) = (sortAt rows i ≡ textSort) × (valueAt rows i ≡ length t) × (lentAt rows text i ≡ t) × (offsetAt rows i + valueAt rows i ≤ length text)
@@ -33,7 +33,7 @@ Holds rows text i (string t) = (sortAt rows i ≡ textSort) × (valueAt rows i �
 abbrev HoldAll : (rows text : List ℕ) → (row : ℕ) → List Leaf → Type 0
 HoldAll rows text = Along (Holds rows text)
 
--- The numbers of a row behind others
+-- The numbers of a row after others
 module _ (before after : List ℕ) (i a b c : ℕ) (l : length before ≡ rowWidth * i) where
   abbrev table : List ℕ
   table = before ++ (a ∷ b ∷ c ∷ after)
@@ -47,13 +47,13 @@ module _ (before after : List ℕ) (i a b c : ℕ) (l : length before ≡ rowWid
   third : valueAt table i ≡ c
   third = let e : rowWidth * i + 2 ≡ length before + 2 = omega arith in ap (λ (k : ℕ). getD table k 0) e ∙ getD-append-add before (a ∷ b ∷ c ∷ after) 2 0
 
--- The row of a leaf holds it, where the leaf's bytes stand
+-- The row of a leaf holds it, if the leaf's bytes are there
 row-holds : (before after s : List ℕ) (i at : ℕ) (x : Leaf) (rest : List ℕ) → length before ≡ rowWidth * i → drop at s ≡ leafBytes x ++ rest → Holds (before ++ (rowAt at x ++ after)) s i x
 row-holds before after s i at (plain srt n) rest l e = (first before after i (sortNumber srt) at n l, third before after i (sortNumber srt) at n l)
 row-holds before after s i at (string t) rest l e =
     let o = second before after i textSort (at + 4) (length t) l in
     let v = third before after i textSort (at + 4) (length t) l in
-    let d : drop (at + 4) s ≡ t ++ rest = behind s at (four (length t)) (t ++ rest) (e ∙ append-assoc (four (length t)) t rest) in
+    let d : drop (at + 4) s ≡ t ++ rest = rest-after s at (four (length t)) (t ++ rest) (e ∙ append-assoc (four (length t)) t rest) in
     (first before after i textSort (at + 4) (length t) l, v, rw (o, v, d) (take-append-seam t rest), rw (o, v) (omega (arith, ap length e, length-append (leafBytes (string t)) rest, length-drop at s)))
 
 row-width : (at : ℕ) (x : Leaf) → length (rowAt at x) ≡ rowWidth
@@ -71,10 +71,10 @@ rows-hold (x ∷ ls) before after s i at rest l e =
     let b : (before ++ rowAt at x) ++ (r ++ after) ≡ before ++ ((rowAt at x ++ r) ++ after) = append-assoc before (rowAt at x) (r ++ after) ∙ a in
     let m : length (before ++ rowAt at x) ≡ rowWidth * (i + 1) = omega (arith, length-append before (rowAt at x), row-width at x) in (
       subst (λ (y : List ℕ). Holds y s i x) a (row-holds before (r ++ after) s i at x (bytesOf ls ++ rest) l f),
-      subst (λ (y : List ℕ). HoldAll y s (i + 1) ls) b (rows-hold ls (before ++ rowAt at x) after s (i + 1) (at + length (leafBytes x)) rest m (behind s at (leafBytes x) (bytesOf ls ++ rest) f)),
+      subst (λ (y : List ℕ). HoldAll y s (i + 1) ls) b (rows-hold ls (before ++ rowAt at x) after s (i + 1) (at + length (leafBytes x)) rest m (rest-after s at (leafBytes x) (bytesOf ls ++ rest) f)),
     )
 
--- What good rows that give leaves hold
+-- Good rows that give leaves hold them
 good-holds : (rows text : List ℕ) (i : ℕ) (x : Leaf) → (sortAt rows i ≡ textSort → GoodText rows text i) → RowGives rows text i x → Holds rows text i x
 good-holds rows text i (plain srt n) h g = g
 good-holds rows text i (string t) h g =
@@ -86,7 +86,7 @@ holds-gives : (rows text : List ℕ) (i : ℕ) (x : Leaf) → Holds rows text i 
 holds-gives rows text i (plain srt n) h = h
 holds-gives rows text i (string t) h = (h .0, h .2)
 
--- A row that holds a leaf which fits is good
+-- A row that holds a leaf that fits is good
 holds-good : (rows text : List ℕ) (i : ℕ) (x : Leaf) → Holds rows text i x × Fits x → sortAt rows i ≡ textSort → GoodText rows text i
 holds-good rows text i (plain srt n) h s = absurd (plain-not-text srt (sym (h .0 .0) ∙ s))
 holds-good rows text i (string t) h s = (h .0 .3, subst Utf8 (sym (h .0 .2)) (h .1 .0))
@@ -117,7 +117,7 @@ module _ (L : Layout) (s : List ℕ) (v : Value L) (d : Derives L s v) where
   stored-hold : (zeros : List ℕ) → HoldAll (rowsFrom 0 ls ++ zeros) s 0 ls
   stored-hold zeros = rows-hold ls [] zeros s 0 0 [] (omega arith) (sym (d .derives) ∙ sym (append-nil (bytes L v)))
 
-  -- A reading's rows spell what was read
+  -- The rows of a reading spell what was read
   rows-spell : Spells L (rowsFrom 0 ls) s v
   rows-spell = record {
     sized = meets-map fits-sized L v (d .proper);

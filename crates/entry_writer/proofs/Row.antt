@@ -1,4 +1,4 @@
--- What a row takes and stores, by its sort; and the rows, one after the other.
+-- What a row takes and stores, by its sort; and row after row.
 use Prim.Native.Nat.{ℕ, suc, _+_, _-_, _%_, _≤_, _<_}
 use native.Mathlib.Omega.{arith}
 use mathlib.Core.Bool.{Bool, not, true, false}
@@ -24,7 +24,7 @@ module _ (rows : List ℕ) (i sort : ℕ) (e : sort ≡ sortAt rows i) where
   sort-text : {A : Type 0} → 5 < sort → (a b c : A) → bySort rows i a b c ≡ c
   sort-text h a b c = rw (← e, lt-leb sort 3 (omega arith), lt-leb sort 5 h)
 
-  -- The bytes that a row takes
+  -- The number of bytes that a row takes
   pub length-one : sort ≤ 3 → rowLength rows i ≡ 1
   unfolding rowLength
   length-one h = sort-one h _ _ _
@@ -58,7 +58,7 @@ module _ (rows : List ℕ) (i sort : ℕ) (e : sort ≡ sortAt rows i) where
       pub four-stored : 3 < sort → sort ≤ 5 → (after : List ℕ) → after ≡ pasted dest at (four n) → after ≡ pasted dest at (rowBytes rows text i)
       four-stored h k after e = e ∙ ap (pasted dest at) (ap four v ∙ sym (bytes-four h k))
 
--- What is left of some bytes behind a start
+-- The bytes left after a start
 pub left-of : (start n l : ℕ) → start ≤ l → leb n (l - start) ≡ leb (start + n) l
 left-of start n l h = go (leb n (l - start)) refl
   where
@@ -66,11 +66,11 @@ left-of start n l h = go (leb n (l - start)) refl
     go true e = let k = leb-true n (l - start) e in sym (le-leb (start + n) l (omega arith))
     go false e = let k = leb-false n (l - start) e in sym (lt-leb (start + n) l (omega arith))
 
--- A text that stays ends within the lent bytes
+-- A text within the lent bytes ends within them
 pub stays-within : (s : Bool) (end l : ℕ) → s ≡ leb end l → not s ≡ false → end ≤ l
 stays-within s end l e h = leb-true end l (sym e ∙ not-false s h)
 
--- The text of a row, by the test whether it stays
+-- The text of a row, by the test whether it is within the lent bytes
 module _ (rows text : List ℕ) (i start n : ℕ) (p : start ≡ offsetAt rows i) (q : n ≡ valueAt rows i) (s : Bool) (b : s ≡ leb (start + n) (length text)) where
   module _ (sort : ℕ) (e : sort ≡ sortAt rows i) (h : 5 < sort) (dest : List ℕ) (at : ℕ) (mid : List ℕ) (m : mid ≡ pasted dest at (four n)) where
     -- Only its length is stored
@@ -79,7 +79,7 @@ module _ (rows text : List ℕ) (i start n : ℕ) (p : start ≡ offsetAt rows i
         let t : textInside rows text i ≡ [] = rw (← p, ← q, ← b, not-true s k) in
         m ∙ ap (pasted dest at) (ap four q ∙ sym (bytes-text rows i sort e text h ∙ ap (λ (x : List ℕ). four (valueAt rows i) ++ x) t))
 
-    -- It is stored behind its length
+    -- It is stored after its length
     pub text-stored : not s ≡ false → at + rowLength rows i ≤ length dest → (after : List ℕ) → after ≡ pasted mid (at + 4) (take (start + n - start) (drop start text))
         → after ≡ pasted dest at (rowBytes rows text i)
     text-stored k fits after f =
@@ -92,7 +92,7 @@ module _ (rows text : List ℕ) (i start n : ℕ) (p : start ≡ offsetAt rows i
         ∙ rw (w, m) (pasted-append dest at (four n) x (omega (arith, length-text rows i sort e h)))
         ∙ ap (pasted dest at) (ap (λ (y : ℕ). four y ++ x) q ∙ sym (bytes-text rows i sort e text h ∙ ap (λ (y : List ℕ). four (valueAt rows i) ++ y) t))
 
--- The rows from i on, of n: the next fits, or does not, or there is none
+-- The rows from i on, of n: the next one fits, or does not fit, or there is none
 module _ (rows text : List ℕ) (n i at : ℕ) (dest : List ℕ) where
   module _ (h : i < n) (size : ℕ) (s : size ≡ rowLength rows i) where
     next : n - i ≡ suc (n - (i + 1))

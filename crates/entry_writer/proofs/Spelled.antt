@@ -1,4 +1,4 @@
--- What rows spell: the reading from rows finds it, and only it.
+-- What rows spell: the reading from rows finds exactly that.
 use Prim.Native.Nat.{ℕ, zero, suc, _+_, _*_, _≤_, _<_}
 use native.Mathlib.Omega.{arith}
 use mathlib.Core.Bool.{Bool, true, false, cond, _&&_, and-eq-true-iff}
@@ -21,11 +21,11 @@ use Rattle.entry_writer.specs.Refusals.{RowGives, Along, Sized, Spells, 
 use Rattle.entry_writer.proofs.Along.{along-join, along-part, along-at, along-map}
 use Rattle.entry_writer.specs.Theorems.{Write-exact, Spells-proper, Spells-unique, Write-refused}
 
--- A row of a sort
+-- A row of a given sort
 pub is-row : (rows : List ℕ) (i sort : ℕ) → isRow rows i sort ≡ true → (i < wholeRows rows) × (sortAt rows i ≡ sort)
 is-row rows i sort e = let (a, b) = and-eq-true-iff _ _ .0 e in (ltb-true _ _ a, eqb-true _ _ b)
 
--- No number's sort is a text's
+-- The sort of a number is not that of a text
 pub plain-not-text : (srt : Sort) → sortNumber srt ≡ textSort → ⊥
 plain-not-text Kind z = omega arith
 plain-not-text Tag z = omega arith
@@ -34,18 +34,18 @@ plain-not-text Number z = omega arith
 plain-not-text Count z = omega arith
 
 module _ (rows text : List ℕ) where
-  -- A row is there and gives a leaf
+  -- A row exists and gives a leaf
   abbrev pub There : (row : ℕ) → Leaf → Type 0
   There i x = (i < wholeRows rows) × RowGives rows text i x
 
-  -- The rows from i on do
+  -- So do the rows from i on
   abbrev pub Given : (row : ℕ) → List Leaf → Type 0
   Given = Along There
 
   pub given-there : (i : ℕ) (ls : List Leaf) → Given i ls → (k : ℕ) → i ≤ k → k < i + length ls → k < wholeRows rows
   given-there = along-at There (λ k. k < wholeRows rows) (λ k x h. h .0)
 
-  -- And the next row comes behind them
+  -- And the next row comes after them
   pub record Begins (i : ℕ) (ls : List Leaf) (end : ℕ) : Type 0 where
     pub gives : Given i ls
     pub ends : end ≡ i + length ls
@@ -157,7 +157,7 @@ module _ (rows text : List ℕ) where
   pub all-good : GoodTexts rows text → goodRows rows text (wholeRows rows) ≡ true
   all-good g = good-complete (wholeRows rows) (λ i h. text-good i (g i h))
 
-  -- A row that is not good, where not all are
+  -- If not all rows are good, there is one that is not
   bad-row : (n : ℕ) → goodRows rows text n ≡ false → (i : ℕ) × (i < n) × (goodAt rows text i ≡ false)
   bad-row zero e = let z : _≡_ {A = ℕ} 1 0 = ap (λ (b : Bool). cond b 1 0) e in absurd (omega arith)
   bad-row (suc n) e = go (goodRows rows text n) refl e (bad-row n)
@@ -180,7 +180,7 @@ module _ (rows text : List ℕ) where
   pub not-all-good : goodRows rows text (wholeRows rows) ≡ false → (i : ℕ) × (i < wholeRows rows) × (sortAt rows i ≡ textSort) × (GoodText rows text i → ⊥)
   not-all-good e = let (i, h, k) = bad-row (wholeRows rows) e in let (s, g) = not-good i k in (i, h, s, g)
 
--- Leaves that are sized, whose texts are good and not too long, fit
+-- Leaves that are sized, with good texts and not too long, fit
 fitting : (rows text : List ℕ) → GoodTexts rows text → (i : ℕ) (ls : List Leaf) → Given rows text i ls → Each Sized ls → length (bytesOf ls) ≤ limit → Each Fits ls
 fitting rows text g i [] h z l = tt
 fitting rows text g i (plain srt n ∷ ls) h z l =
@@ -199,7 +199,7 @@ pub spells-unique : Spells-unique
 spells-unique L rows text v w s t = let a = spelled-complete L rows text v s in let b = spelled-complete L rows text w t in cc
 
 module _ (L : Layout) (rows text : List ℕ) (size : ℕ) where
-  -- What a writing comes to
+  -- The outcome of a writing
   data Judged : Outcome ℕ (List ℕ) → Type 0 where
     writes : {b : List ℕ} {n : ℕ} → (v : Value L) × Spells L rows text v × GoodTexts rows text × (b ≡ bytes L v) × (n ≡ length b) × (n ≤ limit) × (n ≤ size) → Judged (ok b n)
     refuses : {n p : ℕ} → WriteRefusal L rows text size n × (p ≡ 0) → Judged (refuse n p)

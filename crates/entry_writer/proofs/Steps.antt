@@ -1,4 +1,4 @@
--- What the taking of a row comes to, from the tests on it.
+-- The result of taking a row, from the tests on it.
 use Prim.Native.Nat.{ℕ, _+_, _-_, _≤_, _<_}
 use native.Mathlib.Omega.{arith}
 use mathlib.Core.Bool.{Bool, true, false, not}
@@ -24,7 +24,7 @@ use Rattle.entry_writer.proofs.Spelled.{is-row}
 use Rattle.entry_writer.proofs.Row.{stays-within}
 use Rattle.text.specs.Walk as automaton
 
--- A number that is taken arrives as a leaf of its sort
+-- A number that is taken is a leaf of its sort
 pub take-sort : (srt : Sort) (o : Outcome ℕ ℕ) (w : EntryWriter) → takeNumber (length (plainBytes srt 0)) o w ≡ arrivePlain srt o w
 take-sort Kind (ok n next) w = refl
 take-sort Tag (ok n next) w = refl
@@ -33,7 +33,7 @@ take-sort Number (ok n next) w = refl
 take-sort Count (ok n next) w = refl
 take-sort srt (refuse n p) w = refl
 
--- A row of a sort is one of the whole rows
+-- A row of a given sort is one of the whole rows
 pub row-inside : (rows : List ℕ) (i sort : ℕ) (t : Bool) → t ≡ isRow rows i sort → not t ≡ false → i < wholeRows rows
 row-inside rows i sort t e h = is-row rows i sort (sym e ∙ not-false t h) .0
 
@@ -81,7 +81,7 @@ module _ (rows text : List ℕ) (w : EntryWriter) (z : w .refusal ≡ 0) (t : Bo
   size-is : n ≡ valueAt rows (w .row)
   size-is = value-there rows (w .row) inside g
 
-  -- It leaves the lent bytes
+  -- It is not within the lent bytes
   pub text-outside : not s ≡ true → (r : EntryWriter) → r ≡ spoiled w → r ≡ unlessRefused (arriveText (staysAt rows text (w .row)) (textIn rows text (w .row)) w) w
   text-outside k r y = step-of w _ _ z (rw (← e, not-false t h, ← start-is, ← size-is, ← b, not-true s k) y)
 
@@ -91,7 +91,7 @@ module _ (rows text : List ℕ) (w : EntryWriter) (z : w .refusal ≡ 0) (t : Bo
   lent-length : start + n ≤ length text → length lent ≡ n
   lent-length h = length-take-le n (drop start text) (omega (arith, length-drop start text))
 
-  -- It stays
+  -- It is
   module _ (k : not s ≡ false) (u : Bool) (f : u ≡ automaton.utf8 (take (start + n - start) (drop start text))) (r : EntryWriter) where
     text-within : r ≡ pastText u lent w → r ≡ unlessRefused (arriveText (staysAt rows text (w .row)) (textIn rows text (w .row)) w) w
     unfolding utf8

@@ -1,4 +1,4 @@
--- A refused writer stays as it is, and another goes on.
+-- A refused writer does not change, and any other continues.
 use Prim.Native.Nat.{ℕ}
 use mathlib.Core.List.{List}
 use mathlib.Core.Path.{_≡_}
@@ -37,6 +37,6 @@ writer-still rows text = record { plainly = λ srt w h. plain-refused srt rows w
 pub run-refused : (L : Layout) (rows text : List ℕ) (w : EntryWriter) → Refused w → consume L rows text w ≡ w
 run-refused L rows text w h = drive-still (writer rows text) Refused (writer-still rows text) L w h
 
--- So a loop that comes to r may end there
+-- So a loop whose result is r may end early, at a refused writer
 pub loop-refused : (L : Layout) (rows text : List ℕ) (r w : EntryWriter) → r ≡ consume L rows text w → Refused w → w ≡ r
 loop-refused L rows text r w e h = loop-still (writer rows text) Refused (writer-still rows text) L r w e h

@@ -1,4 +1,4 @@
--- What is stored, where the rows spell a value of good texts and the destination has space enough.
+-- What is stored, if the rows spell a value with good texts and the destination has enough space.
 use Prim.Native.Nat.{ℕ, _+_, _≤_, _<_}
 use native.Mathlib.Nat.{mod-eq-of-lt}
 use native.Mathlib.Omega.{arith}
@@ -24,11 +24,11 @@ use Rattle.entry_writer.proofs.Spelled.{There, Given, given-there, good
 use Rattle.entry_writer.proofs.Measured.{GoodFrom, good-next}
 use Rattle.entry_writer.proofs.Row.{length-one, length-four, length-text, bytes-one, bytes-four, bytes-text}
 
-pasted-behind : (a r b : List ℕ) → length b ≤ length r → pasted (a ++ r) (length a) b ≡ (a ++ b) ++ drop (length b) r
-pasted-behind a r b h = pasted-fits (a ++ r) (length a) b (omega (arith, length-append a r)) ∙ rw (take-append-seam a r, drop-append-add a r (length b))
+pasted-after : (a r b : List ℕ) → length b ≤ length r → pasted (a ++ r) (length a) b ≡ (a ++ b) ++ drop (length b) r
+pasted-after a r b h = pasted-fits (a ++ r) (length a) b (omega (arith, length-append a r)) ∙ rw (take-append-seam a r, drop-append-add a r (length b))
 
 module _ (rows text : List ℕ) where
-  -- The row of a leaf takes its bytes, and has them
+  -- The row of a leaf takes as many bytes as the leaf, and has the same bytes
   record Has (i : ℕ) (x : Leaf) : Type 0 where
     takes : rowLength rows i ≡ length (leafBytes x)
     has : rowBytes rows text i ≡ leafBytes x
@@ -65,11 +65,11 @@ module _ (rows text : List ℕ) where
       let q = length-append b (bytesOf ls) in
       let m : length a + length b ≡ length (a ++ b) = sym (length-append a b) in
       let f : leb (length a + length b) (length (a ++ r)) ≡ true = le-leb (length a + length b) (length (a ++ r)) (omega (arith, length-append a r)) in
-      rw (w .takes, w .has, f, pasted-behind a r b (omega arith), m)
+      rw (w .takes, w .has, f, pasted-after a r b (omega arith), m)
       (stored-leaves ls (i + 1) (a ++ b) (drop (length b) r) (s .1) (g .1) (good-next rows text i x ls h) (omega (arith, length-drop (length b) r))
       ∙ rw (append-assoc a b (bytesOf ls), drop-drop, ← q))
 
--- The storing keeps its promise
+-- Storing meets its contract
 pub stores : (rows text dest : List ℕ) → Stores rows text dest (stored rows text dest)
 stores rows text dest ls g good fits =
     let w : wholeRows rows ≡ length ls = omega (arith, g .whole) in

@@ -1,4 +1,4 @@
--- What only the private functions of the crate promise one another. No public contract cites anything here.
+-- Definitions for the contracts of private functions; no public contract cites them.
 use Prim.Native.Nat.{ℕ, zero, suc, _+_, _%_}
 use mathlib.Core.Bool.{cond}
 use mathlib.Core.List.{List, [], _∷_, _++_}
@@ -16,21 +16,21 @@ use Rattle.entry_writer.specs.declared.EntryWriter.{EntryWriter}
 abbrev pub numberFrom : (rows : List ℕ) → (sort bound row : ℕ) → Outcome ℕ ℕ
 numberFrom rows sort bound i = need (isRow rows i sort) 14 0 (need (ltb (valueAt rows i) bound) 14 0 (ok (valueAt rows i) (i + 1)))
 
--- A number that is taken, of so many bytes
+-- A number that is taken, of `size` bytes
 abbrev pub takeNumber : (size : ℕ) → Outcome ℕ ℕ → EntryWriter → EntryWriter
 takeNumber size (ok n next) w = past n size w
 takeNumber size (refuse n p) w = stoppedWriter w
 
--- By the sort of a row, as `store` goes on: up to 3, a kind, a tag or a flag; up to 5, a number or a count; or a text. Document 01
--- has no sort 0 and none above 6, and a writing refuses such a row with 14 before
+-- By the sort of a row, as `store` tests it: up to 3, a kind, a tag or a flag; up to 5, a number or a count; else a text. There
+-- is no sort 0 and none above 6 (docs/FORMAT.md, Rows), and a writing has refused such a row with 14 before
 abbrev pub bySort : {A : Type 0} → (rows : List ℕ) → (row : ℕ) → (byte number text : A) → A
 bySort rows i a b c = cond (leb (sortAt rows i) 3) a (cond (leb (sortAt rows i) 5) b c)
 
--- The bytes that a row takes
+-- The number of bytes that a row takes
 unfoldable pub rowLength : (rows : List ℕ) → (row : ℕ) → ℕ
 rowLength rows i = bySort rows i 1 4 (4 + valueAt rows i)
 
--- The text of a row, if it stays within the lent bytes
+-- The text of a row, if it is within the lent bytes
 abbrev pub textInside : (rows text : List ℕ) → (row : ℕ) → List ℕ
 textInside rows text i = cond (staysAt rows text i) (lentAt rows text i) []
 
@@ -38,7 +38,7 @@ textInside rows text i = cond (staysAt rows text i) (lentAt rows text i) []
 unfoldable pub rowBytes : (rows text : List ℕ) → (row : ℕ) → List ℕ
 rowBytes rows text i = bySort rows i (valueAt rows i % 256 ∷ []) (four (valueAt rows i)) (four (valueAt rows i) ++ textInside rows text i)
 
--- n rows from row i on are stored in dest from a place on, as long as they fit
+-- n rows from row i on, stored in dest from a place on as long as they fit
 unfoldable pub storedFrom : (rows text : List ℕ) → (n row at : ℕ) → (dest : List ℕ) → List ℕ
 storedFrom rows text zero i at dest = dest
 storedFrom rows text (suc n) i at dest =
@@ -46,6 +46,6 @@ storedFrom rows text (suc n) i at dest =
     (storedFrom rows text n (i + 1) (at + rowLength rows i) (pasted dest at (rowBytes rows text i)))
     dest
 
--- All rows are, from the start of dest on
+-- All rows, stored from the start of dest on
 abbrev pub stored : (rows text dest : List ℕ) → List ℕ
 stored rows text dest = storedFrom rows text (wholeRows rows) 0 0 dest

@@ -1,4 +1,4 @@
--- The rows that a writer is given, with the text bytes that are lent beside them, as what leaves are read from.
+-- The rows given to a writer, with the lent text bytes, as a source of leaves.
 use Prim.Native.Nat.{ℕ, zero, suc, _+_}
 use mathlib.Core.Bool.{Bool, true, cond, _&&_}
 use mathlib.Core.List.{List}
@@ -9,7 +9,7 @@ use Rattle.layout.specs.Written.{sortNumber, textSort, sortAt, offsetAt, valueA
 use Rattle.layout.specs.Reading.{Outcome, ok, need, Source, utf8}
 use Rattle.layout.specs.Answers.{wholeRows}
 
--- There is a row, and it is of a sort
+-- There is a row, and it has a given sort
 abbrev pub isRow : (rows : List ℕ) → (row sort : ℕ) → Bool
 isRow rows i sort = ltb i (wholeRows rows) && eqb (sortAt rows i) sort
 
@@ -20,7 +20,7 @@ plainIn rows srt i =
     (need (ltb (valueAt rows i) (bound srt)) 14 0
     (ok (valueAt rows i) (i + 1)))
 
--- The text bytes that a row gives: so many as its value says, from its offset on
+-- The text bytes that a row gives: as many as its value says, from its offset on
 abbrev pub lentAt : (rows text : List ℕ) → (row : ℕ) → List ℕ
 lentAt rows text i = take (valueAt rows i) (drop (offsetAt rows i) text)
 
@@ -28,19 +28,19 @@ lentAt rows text i = take (valueAt rows i) (drop (offsetAt rows i) text)
 abbrev pub textIn : (rows text : List ℕ) → (row : ℕ) → Outcome ℕ (List ℕ)
 textIn rows text i = need (isRow rows i textSort) 14 0 (ok (lentAt rows text i) (i + 1))
 
--- Rows as a source: its positions are the numbers of the rows taken. No other row's offset is read than a text's
+-- Rows as a source: a position is the number of rows taken. Only the offsets of text rows are read
 abbrev pub inRows : (rows text : List ℕ) → Source
 inRows rows text = record { Position = ℕ; takePlain = plainIn rows; takeText = textIn rows text; place = λ i. 0 }
 
--- A text row stays within the lent bytes
+-- A text row is within the lent bytes
 abbrev pub staysAt : (rows text : List ℕ) → (row : ℕ) → Bool
 staysAt rows text i = leb (offsetAt rows i + valueAt rows i) (length text)
 
--- 15: a text row stays within the lent bytes, and its bytes are RFC 3629. Other rows are not asked
+-- 15: a text row is within the lent bytes, and its bytes are valid UTF-8. Any other row counts as good
 abbrev pub goodAt : (rows text : List ℕ) → (row : ℕ) → Bool
 goodAt rows text i = cond (eqb (sortAt rows i) textSort) (staysAt rows text i && utf8 (lentAt rows text i)) true
 
--- So are the first n rows
+-- The first n rows are good
 abbrev pub goodRows : (rows text : List ℕ) → (n : ℕ) → Bool
 goodRows rows text zero = true
 goodRows rows text (suc n) = goodRows rows text n && goodAt rows text n

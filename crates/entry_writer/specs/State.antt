@@ -1,4 +1,4 @@
--- Where a writing stands, and what one row makes of it.
+-- The state of a writing, and the effect of one row on it.
 use Prim.Native.Nat.{ℕ, _+_}
 use mathlib.Core.Bool.{Bool, true, false, cond, _&&_}
 use mathlib.Core.List.{List}
@@ -11,7 +11,7 @@ use Rattle.layout.specs.Answers.{limit}
 use Rattle.entry_writer.specs.Rows.{plainIn, textIn, staysAt}
 use Rattle.entry_writer.specs.declared.EntryWriter.{EntryWriter}
 
--- The writer of a writing that begins
+-- The writer at the start of a writing
 abbrev pub newWriter : EntryWriter
 newWriter = record { row = 0; pos = 0; value = 0; refusal = 0; bad = false }
 
@@ -23,15 +23,15 @@ stoppedWriter w = record { row = w .row; pos = w .pos; value = w .value; refusal
 abbrev pub stoppedOnce : EntryWriter → EntryWriter
 stoppedOnce w = cond (eqb (w .refusal) 0) (stoppedWriter w) w
 
--- A length with more bytes; above the limit it stops
+-- A length increased by some bytes; it stops just above the limit
 abbrev pub grown : (pos size : ℕ) → ℕ
 grown pos size = cond (leb (pos + size) limit) (pos + size) (limit + 1)
 
--- The writer behind a row with a value, which takes so many bytes
+-- The writer after a row with a value, which takes `size` bytes
 abbrev pub past : (value size : ℕ) → EntryWriter → EntryWriter
 past n size w = record { row = w .row + 1; pos = grown (w .pos) size; value = n; refusal = w .refusal; bad = w .bad }
 
--- The writer behind a bad text
+-- The writer after a bad text
 abbrev pub spoiled : EntryWriter → EntryWriter
 spoiled w = record { row = w .row + 1; pos = w .pos; value = w .value; refusal = w .refusal; bad = true }
 
@@ -50,14 +50,14 @@ abbrev pub arriveText : (stays : Bool) → Outcome ℕ (List ℕ) → EntryWrite
 arriveText stays (ok t next) w = pastText (stays && utf8 t) t w
 arriveText stays (refuse n p) w = stoppedWriter w
 
--- A refused writer stays as it is
+-- A refused writer does not change
 unfoldable pub unlessRefused : (out w : EntryWriter) → EntryWriter
 unlessRefused out w = cond (eqb (w .refusal) 0) out w
 
--- The taking of a row that holds a number
+-- Taking a row that holds a number
 unfoldable pub consumePlain : Sort → (rows : List ℕ) → EntryWriter → EntryWriter
 consumePlain srt rows w = unlessRefused (arrivePlain srt (plainIn rows srt (w .row)) w) w
 
--- The taking of a text row
+-- Taking a text row
 unfoldable pub consumeText : (rows text : List ℕ) → EntryWriter → EntryWriter
 consumeText rows text w = unlessRefused (arriveText (staysAt rows text (w .row)) (textIn rows text (w .row)) w) w

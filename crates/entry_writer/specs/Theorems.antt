@@ -1,4 +1,4 @@
--- What is proved of the definitions, as statements, for every layout. Each comment names the proof, in proofs/.
+-- The theorems about the definitions, as statements, for every layout. Each comment names the proof, in proofs/.
 use Prim.Native.Nat.{ℕ, _*_, _≤_, _<_}
 use mathlib.Core.List.{List}
 use mathlib.Core.Logic.{_↔_}
@@ -14,8 +14,8 @@ use Rattle.entry_writer.specs.Rows.{lentAt}
 use Rattle.entry_writer.specs.Writing.{measured, write, lengthIn, written}
 use Rattle.entry_writer.specs.Refusals.{Spells, GoodTexts, WriteRefusal, ExactLength, ExactWriting}
 
--- What is written is what the value that the rows spell derives, of good texts, of at most the limit and within the destination;
--- and all such is written: `write-exact` in Spelled.antt
+-- What is written is what the value spelled by the rows derives, if its texts are good, its length is at most the limit and the
+-- destination has space; and every such value is written: `write-exact` in Spelled.antt
 abbrev pub Write-exact : Type 0
 Write-exact =
     (L : Layout) (rows text : List ℕ) (size : ℕ) (b : List ℕ) (n : ℕ)
@@ -31,34 +31,34 @@ Spells-proper =
 abbrev pub Spells-unique : Type 0
 Spells-unique = (L : Layout) (rows text : List ℕ) (v w : Value L) → Spells L rows text v → Spells L rows text w → v ≡ w
 
--- Each refusal is answered under its condition and no other: `write-refused` in Spelled.antt
+-- Each refusal is answered exactly under its condition: `write-refused` in Spelled.antt
 abbrev pub Write-refused : Type 0
 Write-refused =
     (L : Layout) (rows text : List ℕ) (size n p : ℕ) → (write L rows text size ≡ refuse n p) ↔ (WriteRefusal L rows text size n × (p ≡ 0))
 
--- A measuring keeps its promise in terms of what the rows spell: `exact-length` in Exact.antt
+-- Measuring meets its contract in terms of what the rows spell: `exact-length` in Exact.antt
 abbrev pub Exact-length : Type 0
 Exact-length = (L : Layout) (rows text : List ℕ) → ExactLength L rows text (lengthIn (measured L rows text))
 
--- So a writing: `exact-writing` in Exact.antt
+-- So does writing: `exact-writing` in Exact.antt
 abbrev pub Exact-writing : Type 0
 Exact-writing =
     (L : Layout) (rows text dest : List ℕ)
     → ExactWriting L rows text dest (lengthIn (write L rows text (length dest))) (written (write L rows text (length dest)) dest)
 
--- A row of another table is the same, but for the offset if it is no text row
+-- A row of another table is the same, except for the offset if it is not a text row
 pub record SameRow (rows other : List ℕ) (i : ℕ) : Type 0 where
   pub sorts : sortAt other i ≡ sortAt rows i
   pub values : valueAt other i ≡ valueAt rows i
   pub offsets : sortAt rows i ≡ textSort → offsetAt other i ≡ offsetAt rows i
 
--- The offset of text rows only is read: `offset-free` in Offsets.antt
+-- Only the offsets of text rows are read: `offset-free` in Offsets.antt
 abbrev pub Offset-free : Type 0
 Offset-free =
     (L : Layout) (rows other text : List ℕ) (size : ℕ) → length other ≡ length rows → ((i : ℕ) → i < wholeRows rows → SameRow rows other i)
     → write L other text size ≡ write L rows text size
 
--- A reading of bytes that returns the rows from which they were written, but for offsets, and for each text row the same bytes
+-- A reading of bytes returns the rows from which they were written, except for offsets, and for each text row the same bytes
 pub record ReadsBack (rows text b : List ℕ) (entities : ℕ) (r : Result) : Type 0 where
   pub answer : r .answer ≡ accepted entities (wholeRows rows)
   pub sorts : (i : ℕ) → i < wholeRows rows → sortAt (r .table) i ≡ sortAt rows i
@@ -66,13 +66,13 @@ pub record ReadsBack (rows text b : List ℕ) (entities : ℕ) (r : Result) : Ty
   pub texts : (i : ℕ) → i < wholeRows rows → sortAt rows i ≡ textSort → lentAt (r .table) b i ≡ lentAt rows text i
   pub zeros : (k : ℕ) → rowWidth * wholeRows rows ≤ k → getD (r .table) k 0 ≡ 0
 
--- Reading what was written, given rows enough: `read-written` in RoundTrips.antt
+-- Reading what was written, given enough rows: `read-written` in RoundTrips.antt
 abbrev pub Read-written : Type 0
 Read-written =
     (L : Layout) (entities : ℕ) (rows text : List ℕ) (size : ℕ) (b : List ℕ) (n : ℕ) → write L rows text size ≡ ok b n
     → (table : List ℕ) → wholeRows rows ≤ wholeRows table → ReadsBack rows text b entities (readingAlone L entities b table)
 
--- Writing what was read, given space enough: the rows that the reading stored, with the bytes read as the lent text:
+-- Writing what was read, given enough space, from the rows that the reading stored, with the bytes read as the lent text:
 -- `write-read` in RoundTrips.antt
 abbrev pub Write-read : Type 0
 Write-read =

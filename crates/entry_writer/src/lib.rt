@@ -1,5 +1,5 @@
-// The rows of a writing: a writer that takes a tag, a flag, a number, a count or a text from the next row and adds up the length;
-// and the storing of the rows' bytes, once nothing is refused.
+// The rows of a writing: a writer that takes a tag, a flag, a number, a count or a text from the next row and adds up the
+// length; and storing the bytes of the rows, once nothing is refused.
 use layout::LIMIT;
 use layout::ROW_WIDTH;
 use length::Length;
@@ -22,8 +22,8 @@ ghost use Rattle.entry_writer.specs.Run.{consume, closing};
 ghost use Rattle.entry_writer.specs.Refusals.{Stores};
 ghost use Rattle.entry_writer.specs.Private.{numberFrom, takeNumber, rowLength, rowBytes};
 
-// Where a writing stands: `row`, the next row; `pos`, the bytes so far, which stop above the limit; `value`, the value of the row
-// before; `refusal`, 0 or 14; `bad`, whether a text row was bad. A refused writer takes no more rows.
+// The state of a writing: `row`, the next row; `pos`, the length so far, which stops just above the limit; `value`, the value
+// of the row before; `refusal`, 0 or 14; `bad`, whether a text row was bad. A refused writer takes no more rows.
 pub struct EntryWriter {
     pub row: usize,
     pub pos: usize,
@@ -69,7 +69,7 @@ impl EntryWriter {
         self.stop()
     }
 
-    // The writer behind a row with a value, which takes so many bytes.
+    // The writer after a row with a value, which takes `size` bytes.
     fn past(self, value: u32, size: usize) -> EntryWriter
         requires { ⌜ self .row + 1 < 2 ^ 64 ⌝ }
         ensures { λ r. ⌜ r ≡ past value size self ⌝ }
@@ -83,7 +83,7 @@ impl EntryWriter {
         }
     }
 
-    // The writer behind a bad text.
+    // The writer after a bad text.
     fn spoiled(self) -> EntryWriter
         requires { ⌜ self .row + 1 < 2 ^ 64 ⌝ }
         ensures { λ r. ⌜ r ≡ spoiled self ⌝ }
@@ -97,7 +97,7 @@ impl EntryWriter {
         }
     }
 
-    // A row of a sort with a value below a bound, which takes so many bytes.
+    // A row of a given sort with a value below a bound, which takes `size` bytes.
     fn number(self, rows: &[u32], sort: u32, bound: usize, size: usize) -> EntryWriter
         ensures { λ r. ⌜ r ≡ unlessRefused (takeNumber size (numberFrom (now (rows .entry)) sort bound (self .row)) self) self ⌝ }
     {
@@ -114,7 +114,7 @@ impl EntryWriter {
         self.past(row.value, size)
     }
 
-    // This and the next four take the next row, from the rows and the text bytes that are lent. Here: a tag.
+    // This and the next four take the next row, from the lent rows and text bytes. Here: a tag.
     pub fn u8(self, rows: &[u32], text: &[u8]) -> EntryWriter
         ensures { λ r. ⌜ r ≡ consume (one Tag) (now (rows .entry)) (now (text .entry)) self ⌝ }
     {
@@ -188,7 +188,7 @@ impl EntryWriter {
     }
 }
 
-// A length, or 17 where it is above the size of the destination.
+// A length, or 17 if it is above the size of the destination.
 pub fn fitting(length: Length, size: usize) -> Length
     ensures { λ r. ⌜ lengthOf r ≡ fitting (lengthOf length) size ⌝ }
 {
@@ -201,8 +201,8 @@ pub fn fitting(length: Length, size: usize) -> Length
     length
 }
 
-// Stores the bytes of the rows from the start of dest on, one row after the other, as long as they fit. What it stores of rows
-// that give no leaves is left free.
+// Stores the bytes of the rows from the start of dest on, row after row, as long as they fit. What it stores for rows that give
+// no leaves is unspecified.
 pub fn store(rows: &[u32], text: &[u8], dest: &mut [u8])
     ensures { λ r. ⌜ Stores (now (rows .entry)) (now (text .entry)) (now (dest .entry)) (now (dest .exit)) ⌝ }
 {
@@ -219,7 +219,7 @@ pub fn store(rows: &[u32], text: &[u8], dest: &mut [u8])
     }
 }
 
-// The bytes that a row takes.
+// The number of bytes that a row takes.
 fn row_len(rows: &[u32], i: usize) -> usize
     requires { ⌜ i < wholeRows (now rows) ⌝ }
     ensures { λ r. ⌜ r ≡ rowLength (now (rows .entry)) i ⌝ }
@@ -257,7 +257,7 @@ fn store_row(rows: &[u32], text: &[u8], dest: &mut [u8], i: usize, at: usize)
     paste::paste(dest, at + 4, &text[start..end]);
 }
 
-// A length with more bytes; above the limit it stops.
+// A length increased by some bytes; it stops just above the limit.
 fn grown(pos: usize, size: usize) -> usize
     ensures { λ r. ⌜ r ≡ grown pos size ⌝ }
 {
@@ -270,7 +270,7 @@ fn grown(pos: usize, size: usize) -> usize
     pos + size
 }
 
-// There is a row at an index, and it is of a sort.
+// Whether there is a row at an index, and it has a given sort.
 fn is_row(rows: &[u32], i: usize, sort: u32) -> bool
     ensures { λ r. ⌜ r ≡ isRow (now (rows .entry)) i sort ⌝ }
 {
@@ -281,7 +281,7 @@ fn is_row(rows: &[u32], i: usize, sort: u32) -> bool
     row.sort == sort
 }
 
-// The text's place is within the lent bytes.
+// Whether a text is within the lent bytes.
 fn stays(text: &[u8], start: usize, size: usize) -> bool
     ensures { λ r. ⌜ r ≡ leb (start + size) (length (now (text .entry))) ⌝ }
 {
@@ -291,7 +291,7 @@ fn stays(text: &[u8], start: usize, size: usize) -> bool
     size <= text.len() - start
 }
 
-// A refusal, at no place.
+// A refusal, with place 0.
 fn refuse(number: u32) -> Length
     ensures { λ r. ⌜ lengthOf r ≡ uncounted number 0 ⌝ }
 {

@@ -1,4 +1,4 @@
--- From boundary to boundary: a whole entry, or the framing's end.
+-- From boundary to boundary: a whole entry, or the end of the framing.
 use Prim.Native.Nat.{ℕ, _+_, _≤_, _<_}
 use native.Mathlib.Omega.{arith}
 use mathlib.Core.Bool.{Bool, true, false, cond, _&&_}
@@ -12,21 +12,14 @@ use Rattle.layout.specs.Reading.{ok, refuse, numberAt}
 use Rattle.layout.specs.Theorems.{Bytes}
 use Rattle.layout.proofs.InBytes.{four-sound, number-small}
 use Rattle.bytes.specs.Bytes.{numberOr0}
-use Rattle.bytes.proofs.Number.{number-none, number-there}
+use Rattle.bytes.proofs.Number.{number-there}
 use Rattle.framing.specs.Framing.{allZero, Part, Parts, framingFrom}
 use Rattle.framing.specs.Answers.{endOf}
 use Rattle.framing.specs.Places.{entryEnd}
 use Rattle.framing.proofs.Framing.{partAt, partsBefore, from-pad, from-few, from-zero, from-long, from-entry, from-beyond, four-not-zero}
 
--- A whole entry stands at a boundary, or none
+-- A whole entry is at a boundary, or none is
 module _ (s : List ℕ) (at : ℕ) where
-  pub length-some : (numberOr0 s at ≡ 0 → ⊥) → at + 4 ≤ length s
-  length-some h = go (leb (at + 4) (length s)) refl
-    where
-      go : (b : Bool) → leb (at + 4) (length s) ≡ b → at + 4 ≤ length s
-      go true e = leb-true (at + 4) (length s) e
-      go false e = absurd (h (number-none s at (leb-false (at + 4) (length s) e)))
-
   pub entry-here : 1 ≤ numberOr0 s at → at + 4 + numberOr0 s at ≤ length s → entryEnd s at ≡ at + 4 + numberOr0 s at
   unfolding entryEnd
   entry-here h k = rw (le-leb 1 (numberOr0 s at) h, le-leb (at + 4 + numberOr0 s at) (length s) k)
@@ -70,13 +63,13 @@ module _ (s : List ℕ) (at : ℕ) where
       go (inl e) = absurd (omega arith)
       go (inr w) = (entry-here (w .some) (w .inside), w .some, w .inside)
 
--- By an end that the code knows
+-- The same, by an end that the code has computed
 pub whole-at : (s : List ℕ) (at end : ℕ) → end ≡ entryEnd s at → at < end → (at + 4 ≤ end) × (end ≤ length s)
 whole-at s at end e h =
     let (i, j, k) = whole-here s at (omega (arith, e)) in
     (omega (arith, e, i), omega (arith, e, i))
 
--- No whole entry stands at a boundary where the length is too long
+-- If no whole entry is at a boundary and the length is not 0, the length is too long
 pub none-long : (s : List ℕ) (at : ℕ) → entryEnd s at ≡ at → 1 ≤ numberOr0 s at → length s < at + 4 + numberOr0 s at
 none-long s at e h = go (leb (at + 4 + numberOr0 s at) (length s)) refl
   where
@@ -84,12 +77,12 @@ none-long s at e h = go (leb (at + 4 + numberOr0 s at) (length s)) refl
     go true f = absurd (omega (arith, e, entry-here s at h (leb-true (at + 4 + numberOr0 s at) (length s) f)))
     go false f = leb-false (at + 4 + numberOr0 s at) (length s) f
 
--- The framing at a boundary where no whole entry stands
+-- The framing at a boundary where there is no whole entry
 module _ (s : List ℕ) (at : ℕ) where
   pub ends-beyond : length s < at → ok tt at ≡ endOf (framingFrom s at)
   ends-beyond h = sym (rw (from-beyond s at h))
 
-  -- b is what the test for zeros answers
+  -- b is the result of the test for zeros
   module _ (h : at ≤ length s) (b : Bool) (q : b ≡ allZero (drop at s)) where
     pub ends-padding : b ≡ true → ok tt at ≡ endOf (framingFrom s at)
     ends-padding k = sym (rw (from-pad s at h (sym q ∙ k)))
@@ -108,7 +101,7 @@ end-before : (p : Part) (g : Parts) → endOf (partsBefore (p ∷ []) g) ≡ end
 end-before p (ok ps end) = refl
 end-before p (refuse n q) = refl
 
--- A whole entry of n bytes at a boundary: the framing goes on behind it
+-- A whole entry of n bytes at a boundary: the framing continues after it
 pub record Next (s : List ℕ) (at n : ℕ) : Type 0 where
   pub inside : at + 4 + n ≤ length s
   pub frames : framingFrom s at ≡ partsBefore (partAt at n ∷ []) (framingFrom s (at + 4 + n))

@@ -1,4 +1,4 @@
--- The framing finds exactly the payloads and the padding that stand in the section.
+-- The framing finds exactly the payloads and the padding that are in the section.
 use Prim.Native.Nat.{ℕ, zero, suc, _+_, _-_, _/_, _%_, _≤_, _<_}
 use native.Mathlib.Nat.{add-zero, zero-add}
 use native.Mathlib.Omega.{arith}
@@ -15,7 +15,7 @@ use Rattle.layout.specs.Theorems.{Bytes}
 use Rattle.layout.proofs.Numbers.{number-four}
 use Rattle.layout.proofs.Walk.{All, given, all-bind, all-need}
 use Rattle.layout.proofs.BadReads.{not-true}
-use Rattle.layout.proofs.InBytes.{behind, four-sound, number-small, four-complete}
+use Rattle.layout.proofs.InBytes.{rest-after, four-sound, number-small, four-complete}
 use Rattle.framing.specs.Framing.{allZero, Part, Parts, boundary, boundaries, framingFrom, framing}
 use Rattle.framing.specs.Entries.{framed, Framable}
 use Rattle.framing.specs.Refusals.{NonZeroFrom}
@@ -24,16 +24,16 @@ use Rattle.framing.specs.Refusals.{NonZeroFrom}
 abbrev pub partAt : (at n : ℕ) → Part
 partAt at n = record { begin = at + 4; end = at + 4 + n }
 
--- The parts of entries that begin at a place
+-- The parts of entries, the first of which begins at a place
 abbrev pub partsOf : ℕ → List (List ℕ) → List Part
 partsOf at [] = []
 partsOf at (x ∷ xs) = partAt at (length x) ∷ partsOf (at + 4 + length x) xs
 
--- Parts before the parts found after them
+-- Parts, followed by the parts found after them
 abbrev pub partsBefore : List Part → Parts → Parts
 partsBefore ps g = g >>= λ qs end. ok (ps ++ qs) end
 
--- A boundary's five ways on, by what its tests find
+-- The five cases of a boundary, by the results of its tests
 module _ (s : List ℕ) (rest : ℕ → Parts) (at : ℕ) where
   boundary-pad : allZero (drop at s) ≡ true → boundary s rest at ≡ ok [] at
   unfolding boundary
@@ -57,7 +57,7 @@ module _ (s : List ℕ) (rest : ℕ → Parts) (at : ℕ) where
       unfolding boundary
       boundary-entry l = rw (z, le-leb (at + 4) (length s) h, e, le-leb 1 n k, le-leb (at + 4 + n) (length s) l)
 
--- The payloads stand in entries from a place of s up to another
+-- The payloads are in entries, from one place of s up to another
 pub record Span (s : List ℕ) (at : ℕ) (payloads : List (List ℕ)) (end : ℕ) : Type 0 where
   pub framable : Framable payloads
   pub there : drop at s ≡ framed payloads ++ drop end s
@@ -66,7 +66,7 @@ pub record Span (s : List ℕ) (at : ℕ) (payloads : List (List ℕ)) (end : �
 pub span-none : (s : List ℕ) (at : ℕ) → Span s at [] at
 span-none s at = record { framable = tt; there = refl; ends = omega arith }
 
--- They do so as the parts say, with padding behind them
+-- They are there as the parts say, with padding after them
 pub record FramedAs (s : List ℕ) (at : ℕ) (ps : List Part) (end : ℕ) : Type 0 where
   pub payloads : List (List ℕ)
   pub span : Span s at payloads end
@@ -85,7 +85,7 @@ allZero-complete : (m : ℕ) → allZero (replicate m 0) ≡ true
 allZero-complete zero = refl
 allZero-complete (suc m) = allZero-complete m
 
--- Not all are zero exactly if one is not
+-- Not all bytes are zero exactly if some byte is not
 some-there : (t : List ℕ) → allZero t ≡ false → (i : ℕ) × (i < length t) × (1 ≤ getD t i 0)
 some-there [] e = let z : _≡_ {A = ℕ} 0 1 = cc in absurd (omega arith)
 some-there (zero ∷ t) e = let (i, h, k) = some-there t e in (suc i, omega arith, k)
@@ -121,7 +121,7 @@ entry-cut s at n h e =
     let d : take n (drop (at + 4) s) ++ drop (at + 4 + n) s ≡ drop (at + 4) s = rw (← drop-drop n (at + 4) s) (take-append-drop n (drop (at + 4) s)) in
     (take n (drop (at + 4) s), lx, rw (d, lx) e)
 
--- One entry more before them
+-- One more entry before them
 pub span-more : (s : List ℕ) (at n : ℕ) {xs : List (List ℕ)} {end : ℕ} → at + 4 + n ≤ length s → 1 ≤ n → n < 4294967296 → drop at s ≡ four n ++ drop (at + 4) s
     → Span s (at + 4 + n) xs end → (x : List ℕ) × (length x ≡ n) × Span s at (x ∷ xs) end
 span-more s at n {xs} {end} h h₁ h₂ e r =
@@ -155,7 +155,7 @@ boundaries-sound s u (suc k) at h f =
     all-bind (boundaries k s (at + 4 + numberAt s at)) _ (boundaries-sound s u k (at + 4 + numberAt s at) h₃ (omega arith)) λ ps end r.
     given (entry-framed s at (numberAt s at) h₃ h₂ (number-small s u at h₁) (four-sound s u at h₁) r)
 
--- From any boundary on, `boundary` says what follows
+-- The framing from any boundary on, in terms of `boundary`
 pub framing-start : (s : List ℕ) → framing s ≡ framingFrom s 0
 unfolding framing
 framing-start s = refl
@@ -187,7 +187,7 @@ framing-next : (s : List ℕ) (at : ℕ) → at ≤ length s → framingFrom s a
 unfolding framingFrom boundaries
 framing-next s at h = boundary-same s (boundaries (length s) s) (boundaries (suc (length s)) s) at λ m l l₂. boundaries-same s (length s) (suc (length s)) m l₂ (omega arith) (omega arith)
 
--- The same five ways on, for the framing from a boundary on
+-- The same five cases, for the framing from a boundary on
 module _ (s : List ℕ) (at : ℕ) (h : at ≤ length s) where
   pub from-pad : allZero (drop at s) ≡ true → framingFrom s at ≡ ok [] at
   from-pad z = framing-next s at h ∙ boundary-pad s (framingFrom s) at z
@@ -206,7 +206,7 @@ module _ (s : List ℕ) (at : ℕ) (h : at ≤ length s) where
       pub from-entry : at + 4 + n ≤ length s → framingFrom s at ≡ partsBefore (partAt at n ∷ []) (framingFrom s (at + 4 + n))
       from-entry m = framing-next s at h ∙ boundary-entry s (framingFrom s) at z n e k l m
 
--- Behind the section's end there is nothing more
+-- Past the section's end there is nothing more
 pub from-beyond : (s : List ℕ) (at : ℕ) → length s < at → framingFrom s at ≡ ok [] at
 unfolding framingFrom boundaries
 from-beyond s at h = boundary-pad s (boundaries (length s) s) at (let h₁ : length s ≤ at = omega arith in rw (drop-of-length-le s h₁))
@@ -214,7 +214,7 @@ from-beyond s at h = boundary-pad s (boundaries (length s) s) at (let h₁ : len
 pub four-zero : (n : ℕ) → n < 4294967296 → n % 256 ≡ 0 → n / 256 % 256 ≡ 0 → n / 65536 % 256 ≡ 0 → n / 16777216 % 256 ≡ 0 → n ≡ 0
 four-zero n h a b c d = sym (number-four n h) ∙ rw (a, b, c, d)
 
--- A length that is not 0 is not all zero
+-- The bytes of a length other than 0 are not all zero
 pub four-not-zero : (n : ℕ) (r : List ℕ) → 1 ≤ n → n < 4294967296 → allZero (four n ++ r) ≡ false
 four-not-zero n r h k = not-true _ λ e.
     let (a, e₁) = and-eq-true-iff _ _ .0 e in
@@ -224,24 +224,24 @@ four-not-zero n r h k = not-true _ λ e.
     let z : n ≡ 0 = four-zero n k (eqb-true _ 0 a) (eqb-true _ 0 b) (eqb-true _ 0 c) (eqb-true _ 0 d) in
     omega arith
 
--- An entry that stands at a boundary
+-- An entry at a boundary
 pub record EntryAt (s : List ℕ) (at : ℕ) (x r : List ℕ) : Type 0 where
   pub number : numberAt s at ≡ length x
   pub inside : at + 4 + length x ≤ length s
   pub payload : drop (at + 4) s ≡ x ++ r
-  pub behind : drop (at + 4 + length x) s ≡ r
+  pub after : drop (at + 4 + length x) s ≡ r
   pub frames : framingFrom s at ≡ partsBefore (partAt at (length x) ∷ []) (framingFrom s (at + 4 + length x))
 
 pub entry-at : (s : List ℕ) (at : ℕ) (x r : List ℕ) → at ≤ length s → 1 ≤ length x → length x < 4294967296 → drop at s ≡ four (length x) ++ (x ++ r) → EntryAt s at x r
 entry-at s at x r h f f₂ g =
-    let d : drop (at + 4) s ≡ x ++ r = behind s at (four (length x)) _ g in
+    let d : drop (at + 4) s ≡ x ++ r = rest-after s at (four (length x)) _ g in
     let (l, n) = four-complete s at (at + 4) (length x) f₂ (rw d g) in
     let h₁ : at + 4 + length x ≤ length s = omega (arith, f, ap length d, length-append x r, length-drop (at + 4) s) in
     record {
       number = n;
       inside = h₁;
       payload = d;
-      behind = behind s (at + 4) x r d;
+      after = rest-after s (at + 4) x r d;
       frames = from-entry s at h (rw g (four-not-zero (length x) (x ++ r) f f₂)) (length x) n (leb-true _ _ l) f h₁;
     }
 
@@ -253,14 +253,14 @@ one-before : (p : Part) (ps : List Part) (g : Parts) → partsBefore (p ∷ []) 
 one-before p ps (ok qs end) = refl
 one-before p ps (refuse n q) = refl
 
--- Past the entries that stand at a boundary
+-- Past the entries at a boundary
 pub framing-past : (s : List ℕ) (xs : List (List ℕ)) (at : ℕ) (r : List ℕ) → Framable xs → at ≤ length s → drop at s ≡ framed xs ++ r → framingFrom s at ≡ partsBefore (partsOf at xs) (framingFrom s (at + length (framed xs)))
 framing-past s [] at r f h e = rw add-zero (sym (none-before (framingFrom s at)))
 framing-past s (x ∷ xs) at r f h e =
     let i = entry-at s at x (framed xs ++ r) h (f .0) (f .1) (simp append-assoc at e) in
     let ends : at + 4 + length x + length (framed xs) ≡ at + length (framed (x ∷ xs)) = omega (arith, length-append x (framed xs)) in
     i .frames
-    ∙ ap (partsBefore (partAt at (length x) ∷ [])) (framing-past s xs (at + 4 + length x) r (f .2) (i .inside) (i .behind))
+    ∙ ap (partsBefore (partAt at (length x) ∷ [])) (framing-past s xs (at + 4 + length x) r (f .2) (i .inside) (i .after))
     ∙ one-before (partAt at (length x)) (partsOf (at + 4 + length x) xs) (framingFrom s (at + 4 + length x + length (framed xs)))
     ∙ ap (λ (m : ℕ). partsBefore (partsOf at (x ∷ xs)) (framingFrom s m)) ends
 

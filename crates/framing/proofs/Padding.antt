@@ -1,4 +1,4 @@
--- Zeros that are looked at one after the other.
+-- Zeros, tested one after the other.
 use Prim.Native.Nat.{ℕ, zero, suc, _+_, _≤_, _<_}
 use native.Mathlib.Omega.{arith}
 use mathlib.Core.Bool.{Bool, true, false, _&&_}
@@ -11,7 +11,7 @@ use borrow.Author.Tests.{ne-eqb}
 use Rattle.framing.specs.Framing.{allZero}
 use Rattle.layout.proofs.InBytes.{byte-there}
 
--- Zeros, by the bits that bytes have in common
+-- Zeros, by the bitwise or of the bytes
 or-zero : (a b : ℕ) → eqb (bitOr a b) 0 ≡ (eqb a 0 && eqb b 0)
 or-zero zero b = ap (λ (x : ℕ). eqb x 0) (or-zero-l b)
 or-zero (suc a) b =
@@ -29,7 +29,7 @@ module _ (s : List ℕ) (i : ℕ) where
   pub zero-end : length s ≤ i → allZero (drop i s) ≡ true
   zero-end h = rw (drop-of-length-le s h)
 
--- A block that is not all 0, one that is, and the last
+-- A block that is not all 0, one that is, and the last one
 pub zeros-not : (b c z : Bool) → z ≡ (b && c) → b ≡ false → z ≡ false
 zeros-not b c z e f = rw f at e
 

@@ -27,7 +27,7 @@ pub fails-cond : {S A : Type 0} {Q : ℕ → ℕ → Type 0} (b : Bool) (x y : O
 fails-cond true x y h k = h
 fails-cond false x y h k = k refl
 
--- The first bad boundary from a place on, with the payloads up to it
+-- The first bad boundary from a place on, with the payloads before it
 record BadFrom (s : List ℕ) (at n p : ℕ) : Type 0 where
   before : List (List ℕ)
   span : Span s at before p
@@ -47,7 +47,7 @@ some-left s at z = go (ltb at (length s)) refl
         let w : _≡_ {A = ℕ} 0 1 = cc in
         absurd (omega arith)
 
--- A length, as it stands and as a number
+-- A length, as bytes and as a number
 number-there : (s : List ℕ) → Bytes s → (at : ℕ) → at + 4 ≤ length s → Stands s (one Number) at (numberAt s at) (at + 4)
 number-there s u at h = record { proper = number-small s u at h; there = (four-sound s u at h, refl) }
 
@@ -86,7 +86,7 @@ framing-bad s u =
     fails-map (boundaries-bad s u (suc (length s)) 0 (omega arith) (omega arith)) λ n p r.
     (record { before = r .before; framable = r .span .framable; there = r .span .there; ends = omega (arith, r .span .ends) }, r .is)
 
--- And whenever it holds
+-- And always at a bad boundary
 boundary-refuses : (s : List ℕ) → Bytes s → (at n : ℕ) → at ≤ length s → BadBoundary s at n → framingFrom s at ≡ refuse n at
 boundary-refuses s u at n i (few-remain h k z) = from-few s at i (not-all-zero s at z) k
 boundary-refuses s u at n i (length-zero {m} d z) =
@@ -135,7 +135,7 @@ pub framing-end : (s : List ℕ) → endOf (framingFrom s 0) ≡ framingEnd s
 unfolding framingEnd framing
 framing-end s = refl
 
--- Both clauses of the promise, from the first: 1, or what the framing comes to
+-- Both clauses of the contract, from the first: 1, or the result of the framing
 module _ (s : List ℕ) (u : Bytes s) (o : Outcome ℕ (Unit {0})) where
   promised : o ≡ entryPayloads s → (o ≡ entryPayloads s) × ExactFraming s o
   promised e = (e, subst (ExactFraming s) (sym e) (exact-framing s u))

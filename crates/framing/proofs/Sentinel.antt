@@ -44,7 +44,7 @@ module _ (payload : List ℕ) where
     pub other-second : (n : ℕ) → n ≡ numberOr0 payload 4 → (n ≡ second → ⊥) → false ≡ same payload sentinelBytes
     other-second n e f = sym (not-true (same payload sentinelBytes) (λ q. f (e ∙ at-second ∙ ap (λ (x : List ℕ). numberAt x 4) (same-sound payload sentinelBytes q))))
 
-    -- The two numbers are the sentinel's: the last byte tells
+    -- The two numbers are the sentinel's: the last byte decides
     module _ (n m : ℕ) (e : n ≡ numberOr0 payload 0) (f : n ≡ first) (g : m ≡ numberOr0 payload 4) (i : m ≡ second) where
       spelt : payload ≡ four first ++ (four second ++ (getD payload 8 0 ∷ []))
       spelt =

@@ -1,4 +1,4 @@
--- The way past sentinels.
+-- Moving past sentinels.
 use Prim.Native.Nat.{ℕ, zero, suc, _+_, _-_, _≤_, _<_}
 use native.Mathlib.Omega.{arith}
 use mathlib.Core.Bool.{Bool, true, false, cond, and-eq-true-iff}
@@ -44,7 +44,7 @@ cond-agree : (b : Bool) (x y z : ℕ) → (b ≡ true → x ≡ y) → cond b x 
 cond-agree true x y z h = h refl
 cond-agree false x y z h = refl
 
--- The bound on the sentinels plays no part
+-- The bound on the number of sentinels makes no difference
 skipped-same : (s : List ℕ) (k j at : ℕ) → length s < at + k → length s < at + j → skipped k s at ≡ skipped j s at
 unfolding skipped
 skipped-same s zero zero at h l = refl

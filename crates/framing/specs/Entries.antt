@@ -1,4 +1,4 @@
--- Entries of any payloads, and the payload that yields nothing: document 01, "The section: framing".
+-- Entries with any payloads, and the sentinel's payload, which yields nothing (docs/FORMAT.md, Sections).
 use Prim.Native.Nat.{ℕ, _≤_, _<_}
 use mathlib.Core.List.{List, [], _∷_, _++_}
 use lib.ListN.{length}

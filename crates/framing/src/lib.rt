@@ -1,4 +1,4 @@
-// The framing of a section: entries of a length and a payload, then padding; and the payload that yields nothing.
+// The framing of a section: entries of a length and a payload, then padding; and the sentinel, a payload that yields nothing.
 use layout::LIMIT;
 use table::Refusal;
 ghost use Prim.Native.Nat.{_≤_};
@@ -13,7 +13,7 @@ ghost use Rattle.framing.specs.Answers.{framingOf, endOf, entryPayloads,
 ghost use Rattle.framing.specs.Entries.{sentinelBytes};
 ghost use Rattle.framing.specs.Places.{entryEnd, sentinelAt, pastSentinels};
 
-// The payload that yields nothing, 00 04 00 00 00 70 67 72 78, as two numbers and a byte.
+// The sentinel's payload, 00 04 00 00 00 70 67 72 78, as two numbers and a byte.
 const SENTINEL_FIRST: u32 = 0x0000_0400;
 
 const SENTINEL_SECOND: u32 = 0x7267_7000;
@@ -23,16 +23,16 @@ const SENTINEL_LAST: u8 = 0x78;
 // Its length.
 const SENTINEL_SIZE: usize = 9;
 
-// How many bytes are looked at for zeros at a time.
+// How many bytes are tested for zeros at a time.
 const BLOCK: usize = 64;
 
-// What the framing comes to: where the padding begins, or a refusal.
+// The result of the framing: where the padding begins, or a refusal.
 pub enum Framed {
     Whole { end: usize },
     Refused(Refusal),
 }
 
-// Whether only zeros stand from a place on. Whole blocks come first.
+// Whether there are only zeros from a place on. Whole blocks come first.
 fn all_zero(s: &[u8], at: usize) -> bool
     requires { ⌜ at ≤ length (now s) ⌝ }
     ensures { λ r. ⌜ r ≡ allZero (drop at (now (s .entry))) ⌝ }
@@ -48,8 +48,8 @@ fn all_zero(s: &[u8], at: usize) -> bool
     zeros(s, i, s.len())
 }
 
-// Whether only zeros stand from a place up to another. There is no early exit, so that the compiler can take many bytes at a
-// time.
+// Whether there are only zeros from one place up to another. There is no early exit, so that the compiler can handle many bytes
+// at a time.
 fn zeros(s: &[u8], a: usize, e: usize) -> bool
     requires { ⌜ (a ≤ e) × (e ≤ length (now s)) ⌝ }
     ensures { λ r. ⌜ allZero (drop a (now (s .entry))) ≡ (r && allZero (drop e (now (s .entry)))) ⌝ }
@@ -63,7 +63,7 @@ fn zeros(s: &[u8], a: usize, e: usize) -> bool
     bits == 0
 }
 
-// The framing alone, by refusals 1 to 4.
+// The framing alone, with the refusals 1 to 4.
 pub fn entry_payloads(section: &[u8]) -> Framed
     ensures { λ r. ⌜ framingOf r ≡ entryPayloads (now (section .entry)) ⌝ }
     ensures { λ r. ⌜ ExactFraming (now (section .entry)) (framingOf r) ⌝ }
@@ -74,7 +74,7 @@ pub fn entry_payloads(section: &[u8]) -> Framed
     framing_from(section, 0)
 }
 
-// The framing from a boundary on, by refusals 2 to 4. Its entries are walked by their lengths.
+// The framing from a boundary on, with the refusals 2 to 4. Its entries are walked by their lengths.
 pub fn framing_from(s: &[u8], from: usize) -> Framed
     ensures { λ r. ⌜ framingOf r ≡ endOf (framingFrom (now (s .entry)) from) ⌝ }
 {
@@ -87,7 +87,7 @@ pub fn framing_from(s: &[u8], from: usize) -> Framed
     framing_at(s, at)
 }
 
-// Where the entry at a place ends; the place itself, if no whole entry stands there.
+// Where the entry at a place ends; the place itself, if there is no whole entry.
 pub fn entry_end(s: &[u8], at: usize) -> usize
     ensures { λ r. ⌜ r ≡ entryEnd (now (s .entry)) at ⌝ }
 {
@@ -101,7 +101,7 @@ pub fn entry_end(s: &[u8], at: usize) -> usize
     at + 4 + n
 }
 
-// The framing at a boundary where no whole entry stands. Only here are all bytes up to the end looked at.
+// The framing at a boundary where there is no whole entry. Only here are all bytes up to the end tested.
 fn framing_at(s: &[u8], at: usize) -> Framed
     requires { ⌜ entryEnd (now s) at ≡ at ⌝ }
     ensures { λ r. ⌜ framingOf r ≡ endOf (framingFrom (now (s .entry)) at) ⌝ }
@@ -145,7 +145,7 @@ pub fn is_sentinel(payload: &[u8]) -> bool
     payload[8] == SENTINEL_LAST
 }
 
-// Whether the sentinel's entry stands at a place.
+// Whether the sentinel's entry is at a place.
 pub fn sentinel_at(s: &[u8], at: usize) -> bool
     ensures { λ r. ⌜ r ≡ sentinelAt (now (s .entry)) at ⌝ }
 {
@@ -157,7 +157,7 @@ pub fn sentinel_at(s: &[u8], at: usize) -> bool
     is_sentinel(&s[begin..end])
 }
 
-// Past the sentinels that stand one after the other from a place on: where the next entity's entry begins, if one follows.
+// Past the sentinels from a place on: where the entry of the next entity begins, if there is one.
 pub fn past_sentinels(s: &[u8], from: usize) -> usize
     ensures { λ r. ⌜ r ≡ pastSentinels (now (s .entry)) from ⌝ }
     ensures { λ r. ⌜ sentinelAt (now (s .entry)) r ≡ false ⌝ }

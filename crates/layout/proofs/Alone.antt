@@ -1,4 +1,4 @@
--- The reading of one value alone, and how any reading through a table meets demand 3's statement.
+-- The reading of one value alone, and how any reading through a table meets the statement of demand 3.
 use Prim.Native.Nat.{ℕ, zero, suc, _+_, _≤_, _<_}
 use native.Mathlib.Omega.{arith}
 use mathlib.Core.Bool.{Bool, true, false, cond}
@@ -21,7 +21,7 @@ use Rattle.layout.proofs.BadReads.{payload-bad, payload-refuses}
 use Rattle.layout.proofs.Judges.{alone-numbered}
 use Rattle.layout.proofs.Walk as walk
 
--- A reading m finds what a good derivation gives, and only that; and it refuses exactly under the condition of a refusal
+-- A reading m finds exactly what a good derivation gives, and refuses exactly under the condition of a refusal
 pub record Finds {D : Type 0} (Good : D → Type 0) (gives : D → Given) (Refusal : (number place : ℕ) → Type 0) (m : Outcome ℕ Given) : Type 0 where
   pub complete : (d : D) → Good d → (end : ℕ) × (m ≡ ok (gives d) end)
   pub sound : All (λ g end. (d : D) × Good d × (g ≡ gives d)) m
@@ -35,18 +35,18 @@ enough : (b : Bool) (r : Result) (table : List ℕ) → Accepts (cond b r (refus
 enough true r table a = refl
 enough false r table a = let z : _≡_ {A = ℕ} 0 1 = cc in absurd (omega arith)
 
--- An acceptance or 13, by a test; so if it is 13, the test failed
+-- An acceptance or 13, depending on a test: if it is 13, the test failed
 thirteen : (b : Bool) (g : Given) (table : List ℕ) → cond b (acceptance g table) (refusal 13 0 table) ≡ refusal 13 0 table → b ≡ false
 thirteen true g table e = never-accepts (ap (λ (r : Result). r .answer) e)
 thirteen false g table e = refl
 
--- And it is no refusal with another number
+-- It is no refusal with another number
 pub only-thirteen : (b : Bool) (g : Given) (table : List ℕ) (n p : ℕ) → cond b (acceptance g table) (refusal 13 0 table) .answer ≡ refused n p → n ≡ 13
 only-thirteen true g table n p e = never-accepts e
 only-thirteen false g table n p e = sym (ap (λ (a : Answer). a .number) e)
 
 module _ {D : Type 0} (Good : D → Type 0) (gives : D → Given) (Refusal : (number place : ℕ) → Type 0) where
-  -- Such a reading, told through a table, is exact
+  -- Such a reading, through a table, is exact
   pub exact : (m : Outcome ℕ Given) → Finds Good gives Refusal m → (table : List ℕ) → Exact Good gives Refusal table (throughTable m table)
   exact m f table =
       record {
@@ -94,7 +94,7 @@ module _ {D : Type 0} (Good : D → Type 0) (gives : D → Given) (Refusal : (nu
           let (a, b) = f .numbered n p h in
           (n, p, h, a, b)
 
-  -- And what is exact is that
+  -- And only that result is exact
   pub exact-only : (m : Outcome ℕ Given) → Finds Good gives Refusal m → (table : List ℕ) (r : Result) → Exact Good gives Refusal table r → r ≡ throughTable m table
   exact-only m f table r t = go m refl
     where

@@ -23,7 +23,7 @@ not-true true h = absurd (h refl)
 not-true false h = refl
 
 module _ (s : List ℕ) (srt : Sort) (A : Layout) (j : ℕ → Verdict) (B : ℕ → Layout) (at : ℕ) where
-  -- What comes after the leaf of a case and the part before the judgement
+  -- What follows the leaf of a case and the part before the verdict
   abbrev rest : Value (one srt then A) → ℕ → Outcome ℕ (Value (case srt A j B))
   rest v m = judged (j (v .0)) at (walk (inBytes s) (B (v .0)) m >>= λ b end. ok (v .0, v .1, b) end)
 
@@ -40,7 +40,7 @@ module _ (s : List ℕ) (srt : Sort) (A : Layout) (j : ℕ → Verdict) (B : ℕ
   case-parts = leaf-rest (plainAt s srt at)
 
 module _ (s : List ℕ) where
-  -- What is read stands whole, and what stands whole is read
+  -- What is read is there in full, and what is there in full is read
   whole : Bytes s → (L : Layout) (at : ℕ) → All (Stands s L at) (walk (inBytes s) L at)
   unfolding readValue
   whole u L at = all-when (walk (inBytes s) L at) λ v end e. let (p, t) = readValue-sound L s u at v end e in record { proper = p; there = t }
@@ -96,7 +96,7 @@ module _ (s : List ℕ) where
       fails-bind (walk (inBytes s) A at) _ (whole u A at) (fails-map (walk-bad u A at) λ n p b. inside b) λ a m w.
       fails-judged (j (valuesOf (leaves A a))) at _ (λ f e. bad-part w e) λ e. good
 
-  -- And it refuses there
+  -- And it does refuse there
   plain-cut : (srt : Sort) (at : ℕ) → length s < at + width srt → plainAt s srt at ≡ refuse 5 at
   plain-cut Kind at h = rw (lt-leb (at + 1) (length s) h)
   plain-cut Tag at h = rw (lt-leb (at + 1) (length s) h)
@@ -136,7 +136,7 @@ module _ (s : List ℕ) where
   unfolding read readValue
   read-refuses b = rw (walk-refuses b)
 
-  -- A value, and 12 if bytes remain after it, up to the end of s
+  -- A value, then 12 if bytes remain after it, up to the end of s
   module _ {A : Type 0} (found : List Leaf → A) (stop : ℕ) (l : length s ≡ stop) where
     abbrev pub ended : List Leaf → ℕ → Outcome ℕ A
     ended ls end = need (leb stop end) 12 end (ok (found ls) end)

@@ -1,8 +1,8 @@
--- What holds of each leaf of a value.
+-- Properties of each leaf of a value.
 use mathlib.Core.List.{List, [], _∷_, _++_}
 use Rattle.layout.specs.Layout.{Leaf, Layout, nothing, one, text, _then_, case, check, Value, leaves, Meets}
 
--- Leaves that are each as G says
+-- G holds of each leaf
 abbrev pub Each : (G : Leaf → Type 0) → List Leaf → Type 0
 Each G [] = Unit {0}
 Each G (x ∷ ls) = G x × Each G ls
@@ -24,7 +24,7 @@ module _ (G : Leaf → Type 0) where
   each-of (case srt A j B) v m = (m .0, each-join (leaves A (v .1)) (leaves (B (v .0)) (v .2)) (each-of A (v .1) (m .1)) (each-of (B (v .0)) (v .2) (m .3)))
   each-of (check A j) v m = each-of A v (m .0)
 
--- A value that the judges find fine, of leaves that are each as G says
+-- A value that meets its layout for F, and whose leaves all satisfy G, meets it for G
 pub meets-each : (F G : Leaf → Type 0) (L : Layout) (v : Value L) → Meets F L v → Each G (leaves L v) → Meets G L v
 meets-each F G nothing v m e = tt
 meets-each F G (one srt) n m e = e .0

@@ -1,4 +1,4 @@
--- The leaves that are read of each form of layout, by the leaves of its parts.
+-- The leaves that are read for each form of layout, in terms of the leaves of its parts.
 use Prim.Native.Nat.{ℕ}
 use mathlib.Core.List.{List, [], _∷_, _++_, append-assoc}
 use mathlib.Core.Path.{_≡_, refl}

@@ -1,4 +1,4 @@
--- A machine follows a source: going through a layout, it takes the leaves that are read from the source, or stops where they are refused.
+-- A machine follows a source: it takes the leaves of a layout that are read from the source, or stops where they are refused.
 use Prim.Native.Nat.{ℕ}
 use mathlib.Core.List.{List, [], _∷_, _++_}
 use mathlib.Core.Path.{_≡_, refl, sym, ap, subst, _∙_}
@@ -17,14 +17,14 @@ pub pushAll-append : {T : Type 0} (push : Leaf → T → T) (a b : List Leaf) (s
 pushAll-append push [] b st = refl
 pushAll-append push (x ∷ a) b st = pushAll-append push a b (push x st)
 
--- Where a machine's state stands in the source, whether it goes on, how it takes a leaf, and from st on how it stops
+-- The position of a machine's state in the source, whether it continues, how it takes a leaf, and how it stops from st on
 pub record Gait (S : Source) (T : Type 0) : Type 1 where
   pub at : T → S .Position
   pub Going : T → Type 0
   pub push : Leaf → T → T
   pub Stops : (st r : T) (number place : ℕ) → Type 0
 
--- From st on a machine came to r: the leaves were taken, and it stands behind them; or it stopped
+-- The machine goes from st to r: the leaves were taken and it is positioned after them, or it stopped
 pub data Follows {S : Source} {T : Type 0} (G : Gait S T) (st r : T) : Outcome (S .Position) (List Leaf) → Type 0 where
   moved : {ls : List Leaf} {next : S .Position} → (r ≡ pushAll (G .push) ls st) × (G .at r ≡ next) → Follows G st r (ok ls next)
   stops : {n p : ℕ} → G .Stops st r n p → Follows G st r (refuse n p)
@@ -35,7 +35,7 @@ moved-of (moved h) = h
 pub stops-of : {S : Source} {T : Type 0} {G : Gait S T} {st r : T} {n p : ℕ} → Follows G st r (refuse n p) → G .Stops st r n p
 stops-of (stops h) = h
 
--- What a machine must keep
+-- What a machine must guarantee
 pub record Keeps (S : Source) {T : Type 0} (M : Machine T) (G : Gait S T) : Type 0 where
   pub still : Still M (λ st. G .Going st → ⊥)
   pub going : (x : Leaf) (st : T) → G .Going st → G .Going (G .push x st)
@@ -43,7 +43,7 @@ pub record Keeps (S : Source) {T : Type 0} (M : Machine T) (G : Gait S T) : Type
   pub plainly : (srt : Sort) (st : T) → G .Going st → Follows G st (M .plainStep srt st) (S .takePlain srt (G .at st) >>= λ n end. ok (plain srt n ∷ []) end)
   pub textly : (st : T) → G .Going st → Follows G st (M .textStep st) (S .takeText (G .at st) >>= λ t end. ok (string t ∷ []) end)
   pub verdict : (A : Layout) (j : List ℕ → Verdict) (st : T) → M .verdict A j st ≡ verdictOn j (leavesAt S A (G .at st))
-  -- what is judged wrong stops, and what stopped does not go on; what stopped later stopped
+  -- a fault stops the machine, a stopped machine does not continue, and one that stops after a leaf stops from before it too
   pub halts : (f : Fault) (begin st : T) → G .Going st → G .Stops st (M .halt f begin st) (refusalOf f) (S .place (G .at begin))
   pub stopped : {st r : T} {n p : ℕ} → G .Stops st r n p → G .Going r → ⊥
   pub before : (x : Leaf) (st r : T) (n p : ℕ) → G .Stops (G .push x st) r n p → G .Stops st r n p
@@ -75,7 +75,7 @@ module _ (S : Source) {T : Type 0} (M : Machine T) (G : Gait S T) (k : Keeps S M
       follows-after st st₁ r ls (f next) (h .0) (subst (λ (x : S .Position). Follows G st₁ r (f x)) (h .1) (g w))
   follows-then st st₁ r o f z (stops {n = n} {p = p} h) g i = follows-same st st₁ r n p (i (k .stopped h)) (stops h)
 
-  -- What is wrong, after what was read
+  -- A fault after what was read
   follows-wrong : (f : Fault) (begin st st₁ : T) (ls : List Leaf) (next : S .Position) → G .Going st → Follows G st st₁ (ok ls next)
       → Follows G st (M .halt f begin st₁) (refuse (refusalOf f) (S .place (G .at begin)))
   follows-wrong f begin st st₁ ls next z h =

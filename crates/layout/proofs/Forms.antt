@@ -1,4 +1,4 @@
--- How a function that goes through a part of a layout meets `drive`: a law for each form of layout.
+-- How a function for a part of a layout meets `drive`: one law for each form of layout.
 use Prim.Native.Nat.{ℕ, zero, suc, _+_, _-_, _≤_, _<_}
 use native.Mathlib.Omega.{arith}
 use mathlib.Core.List.{List, _++_}
@@ -19,18 +19,18 @@ module _ {T : Type 0} where
   unfolding drive
   drive-nothing M st = refl
 
-  -- A sequence: what goes through A, and what goes through B after it
+  -- A sequence: A, then B
   pub then-in : (A B : Layout) (M : Machine T) (st st₁ r : T) → st₁ ≡ drive M A st → r ≡ drive M B st₁ → r ≡ drive M (A then B) st
   unfolding drive
   then-in A B M st st₁ r e q = q ∙ ap (drive M B) e
 
-  -- A case, from the state behind its leaf
+  -- A case, from the state after its leaf
   pub case-law : (srt : Sort) (A : Layout) (j : ℕ → Verdict) (B : ℕ → Layout) (M : Machine T) (st st₁ : T) → st₁ ≡ drive M (one srt) st
       → drive M (case srt A j B) st ≡ drive M (B (M .value st₁)) (pass M (j (M .value st₁)) st (drive M A st₁))
   unfolding drive
   case-law srt A j B M st st₁ e = rw e
 
-  -- "May": a flag, then the thing if it is not 0
+  -- "May": a flag, then the optional part unless the flag is 0
   pub may-in : (L : Layout) (M : Machine T) (st st₁ r : T) → st₁ ≡ drive M (one Flag) st → (M .value st₁ ≡ 0 → ⊥) → r ≡ drive M L st₁ → r ≡ drive M (may L) st
   unfolding drive
   may-in L M st st₁ r e h k = k ∙ sym (case-law Flag nothing any (onlyIf L) M st st₁ e ∙ go (M .value st₁) h)
@@ -43,13 +43,13 @@ module _ {T : Type 0} where
   unfolding drive
   may-out L M st st₁ e h = sym (case-law Flag nothing any (onlyIf L) M st st₁ e ∙ ap (λ (v : ℕ). drive M (onlyIf L v) st₁) h)
 
-  -- A tag b that is known, then what follows it. `refl` proves that a numeral is known
+  -- A known tag b, then what follows it. `refl` proves that a numeral is known
   case-in : (srt : Sort) (j : ℕ → Verdict) (B : ℕ → Layout) (b : ℕ) (M : Machine T) (st st₁ r : T)
       → st₁ ≡ drive M (one srt) st → M .value st₁ ≡ b → j b ≡ fine → r ≡ drive M (B b) st₁ → r ≡ drive M (case srt nothing j B) st
   unfolding drive
   case-in srt j B b M st st₁ r e h k q = q ∙ sym (rw (← e, h, k))
 
-  -- A tag that is not
+  -- An unknown tag
   case-wrong : (srt : Sort) (j : ℕ → Verdict) (B : ℕ → Layout) (f : Fault) (M : Machine T) (st st₁ r : T)
       → st₁ ≡ drive M (one srt) st → j (M .value st₁) ≡ wrong f → B (M .value st₁) ≡ nothing → r ≡ M .halt f st st₁ → r ≡ drive M (case srt nothing j B) st
   unfolding drive
@@ -88,7 +88,7 @@ module _ {T : Type 0} where
   after-wrong A rows M st st₁ st₂ r e f h q =
       q ∙ drive-nothing M _ ∙ sym (case-law Tag A (known unknown-tag rows) (follows rows) M st st₁ e ∙ rw (← f, known-outside unknown-tag rows _ h, follows-outside rows _ h))
 
-  -- A list: a count, then as many items
+  -- A list: a count, then that many items
   pub list-in : (L : Layout) (M : Machine T) (st st₁ r : T) → st₁ ≡ drive M (one Count) st → r ≡ drive M (times (M .value st₁) L) st₁ → r ≡ drive M (list L) st
   unfolding drive
   list-in L M st st₁ r e q = q ∙ sym (case-law Count nothing any (λ n. times n L) M st st₁ e)
@@ -105,14 +105,14 @@ module _ {T : Type 0} where
       let e : n - i ≡ 0 = omega arith in
       ap (λ (k : ℕ). drive M (times k L) st) e
 
-  -- A loop over n items that comes to w: a turn, and its end
+  -- A loop over n items whose result is w: one iteration, and the end
   pub loop-on : (n i : ℕ) (L : Layout) (M : Machine T) (w st r : T) → w ≡ drive M (times (n - i) L) st → i < n → r ≡ drive M L st → w ≡ drive M (times (n - (i + 1)) L) r
   loop-on n i L M w st r e h q = e ∙ times-step n i L M st h ∙ ap (drive M (times (n - (i + 1)) L)) (sym q)
 
   pub loop-end : (n i : ℕ) (L : Layout) (M : Machine T) (w st : T) → w ≡ drive M (times (n - i) L) st → n ≤ i → st ≡ w
   loop-end n i L M w st e h = sym (e ∙ times-done n i L M st h)
 
-  -- What is judged after it
+  -- A part that is judged after it was read
   pub check-law : (A : Layout) (j : List ℕ → Verdict) (M : Machine T) (st st₁ r : T) → st₁ ≡ drive M A st → r ≡ pass M (M .verdict A j st) st st₁ → r ≡ drive M (check A j) st
   unfolding drive
   check-law A j M st st₁ r e q = q ∙ ap (pass M (M .verdict A j st) st) e
@@ -145,7 +145,7 @@ module _ {T : Type 0} (M : Machine T) (R : T → Type 0) (k : Still M R) where
   pass-still fine begin st h = refl
   pass-still (wrong f) begin st h = k .halted f begin st h
 
-  -- A state that no step changes stays as it is
+  -- A state that no step changes stays the same
   pub drive-still : (L : Layout) (st : T) → R st → drive M L st ≡ st
   unfolding drive
   drive-still nothing st h = refl
@@ -156,6 +156,6 @@ module _ {T : Type 0} (M : Machine T) (R : T → Type 0) (k : Still M R) where
       rw (k .plainly srt st h, drive-still A st h, pass-still (j (M .value st)) st st h) (drive-still (B (M .value st)) st h)
   drive-still (check A j) st h = rw (drive-still A st h) (pass-still (M .verdict A j st) st st h)
 
-  -- So a loop that comes to w may end there
+  -- So a loop whose result is w may end early, at such a state
   pub loop-still : (L : Layout) (w st : T) → w ≡ drive M L st → R st → st ≡ w
   loop-still L w st e h = sym (e ∙ drive-still L st h)

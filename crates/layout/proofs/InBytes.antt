@@ -17,7 +17,7 @@ use Rattle.layout.proofs.Walk.{All, given, all-bind, all-ok, all-need, 
 use Rattle.layout.proofs.Numbers.{four-number, number-four}
 use Rattle.text.proofs.Exact.{utf8-exact}
 
--- The leaves ls stand in s from a place up to another
+-- The leaves ls are in s, from one place up to another
 record Leaves (s : List ℕ) (at : ℕ) (ls : List Leaf) (end : ℕ) : Type 0 where
   there : drop at s ≡ bytesOf ls ++ drop end s
   ends : end ≡ at + length (bytesOf ls)
@@ -26,11 +26,11 @@ pub bytesOf-append : (a b : List Leaf) → bytesOf (a ++ b) ≡ bytesOf a ++ byt
 bytesOf-append [] b = refl
 bytesOf-append (x ∷ a) b = rw (bytesOf-append a b, append-assoc)
 
--- Behind what stands at a place
-pub behind : (s : List ℕ) (at : ℕ) (x y : List ℕ) → drop at s ≡ x ++ y → drop (at + length x) s ≡ y
-behind s at x y e = rw (← drop-drop (length x) at s, e, drop-append-seam)
+-- The rest after what is at a place
+pub rest-after : (s : List ℕ) (at : ℕ) (x y : List ℕ) → drop at s ≡ x ++ y → drop (at + length x) s ≡ y
+rest-after s at x y e = rw (← drop-drop (length x) at s, e, drop-append-seam)
 
--- A part, cut at its end first
+-- A part, split at its end
 pub drop-take : (l : List ℕ) (i n : ℕ) → i ≤ n → i ≤ length l → drop i (take n l) ≡ take (n - i) (drop i l)
 drop-take l i n h k =
     let e : n ≡ i + (n - i) = omega arith in
@@ -68,7 +68,7 @@ module _ (s : List ℕ) where
   part : {at end : ℕ} (a b : List Leaf) → Leaves s at (a ++ b) end → (m : ℕ) × Leaves s at a m × Leaves s m b end
   part {at} {end} a b h =
       let e : drop at s ≡ bytesOf a ++ (bytesOf b ++ drop end s) = rw (bytesOf-append a b, append-assoc) at (h .there) in
-      let m : drop (at + length (bytesOf a)) s ≡ bytesOf b ++ drop end s = behind s at (bytesOf a) _ e in
+      let m : drop (at + length (bytesOf a)) s ≡ bytesOf b ++ drop end s = rest-after s at (bytesOf a) _ e in
       let n : end ≡ at + length (bytesOf a ++ bytesOf b) = rw (bytesOf-append a b) at (h .ends) in
       (at + length (bytesOf a), record { there = rw m e; ends = refl }, record { there = m; ends = omega (arith, length-append (bytesOf a) (bytesOf b)) })
 
@@ -121,7 +121,7 @@ module _ (s : List ℕ) where
   unfolding utf8
   text-complete {at} {end} t f h =
       let (e, k) = text-stood t at end h in
-      let d : drop (at + 4) s ≡ t ++ drop end s = behind s at (four (length t)) _ e in
+      let d : drop (at + 4) s ≡ t ++ drop end s = rest-after s at (four (length t)) _ e in
       let g : fourAt s at ≡ ok (length t) (at + 4) = plain-complete {at = at} Number (length t) (f .1) (record { there = rw d e; ends = refl }) in
       let b : at + 4 ≤ length s = leb-true _ _ (four-complete at (at + 4) (length t) (f .1) (rw d e) .0) in
       let l : enough s (at + 4) (length t) ≡ true = le-leb (at + 4 + length t) (length s) (omega (arith, ap length d, length-append t (drop end s), length-drop (at + 4) s)) in
@@ -133,16 +133,16 @@ module _ (s : List ℕ) where
   bytes-complete : Complete (inBytes s) Fits (Leaves s)
   bytes-complete = record { none = none-end; part = part; plainly = plain-complete; textly = text-complete }
 
--- A proper value whose bytes stand at a place is what is read there
+-- A proper value whose bytes are at a place is what is read there
 pub readValue-complete : (L : Layout) (v : Value L) (s : List ℕ) (at : ℕ) (rest : List ℕ) → Proper L v → drop at s ≡ bytes L v ++ rest → readValue L s at ≡ ok v (at + length (bytes L v))
 unfolding readValue
-readValue-complete L v s at rest p e = complete (inBytes s) Fits (Leaves s) (bytes-complete s) L v p (record { there = rw (behind s at (bytes L v) rest e) e; ends = refl })
+readValue-complete L v s at rest p e = complete (inBytes s) Fits (Leaves s) (bytes-complete s) L v p (record { there = rw (rest-after s at (bytes L v) rest e) e; ends = refl })
 
 pub read-complete : (L : Layout) (v : Value L) (s : List ℕ) (at : ℕ) (rest : List ℕ) → Proper L v → drop at s ≡ bytes L v ++ rest → read L s at ≡ ok (leaves L v) (at + length (bytes L v))
 unfolding read
 read-complete L v s at rest p e = rw (readValue-complete L v s at rest p e)
 
--- What is read is a proper value whose bytes stand there
+-- What is read is a proper value whose bytes are there
 pub readValue-sound : (L : Layout) (s : List ℕ) → Bytes s → (at : ℕ) (v : Value L) (end : ℕ) → readValue L s at ≡ ok v end → Proper L v × Stand s at (bytes L v) end
 unfolding readValue
 readValue-sound L s u at v end e = let p = all-ok (sound (inBytes s) Fits (Leaves s) (bytes-sound s u) L at) e in (p .0, (p .1 .there, p .1 .ends))

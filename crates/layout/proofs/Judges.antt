@@ -1,4 +1,4 @@
--- The numbers of a bad read: 5 to 7, and those of what the judges of its layout find wrong.
+-- The numbers of a bad read: 5 to 7, and those of the faults that the judges of its layout find.
 use Prim.Native.Nat.{ℕ, _≤_}
 use native.Mathlib.Omega.{arith}
 use mathlib.Core.List.{List}
@@ -8,7 +8,7 @@ use Rattle.layout.specs.BadReads.{BadRead, number-cut, length-cut, text-
 use Rattle.layout.specs.Theorems.{Bad-read-numbered}
 use Rattle.layout.specs.Alone.{RefusalAlone, too-long, bad-payload}
 
--- Whatever the judges of a layout find wrong has a number that is as N says
+-- The number of every fault that the judges of a layout find satisfies N
 abbrev pub Judged : (N : ℕ → Type 0) → Layout → Type 0
 Judged N nothing = Unit {0}
 Judged N (one srt) = Unit {0}
@@ -17,7 +17,7 @@ Judged N (A then B) = Judged N A × Judged N B
 Judged N (case srt A j B) = Judged N A × ((n : ℕ) (f : Fault) → j n ≡ wrong f → N (refusalOf f)) × ((n : ℕ) → Judged N (B n))
 Judged N (check A j) = Judged N A × ((ns : List ℕ) (f : Fault) → j ns ≡ wrong f → N (refusalOf f))
 
--- N has the numbers of the reads
+-- The numbers of the reads satisfy N
 pub record Reads (N : ℕ → Type 0) : Type 0 where
   pub five : N 5
   pub six : N 6
@@ -38,7 +38,7 @@ module _ (N : ℕ → Type 0) (k : Reads N) where
   read-numbered j (inside b) = read-numbered (j .0) b
   read-numbered j (bad-part {A} {a} {f} h e) = j .1 _ f e
 
-  -- Where N has the number of every fault
+  -- If the number of every fault satisfies N
   pub judged : ((f : Fault) → N (refusalOf f)) → (L : Layout) → Judged N L
   judged h nothing = tt
   judged h (one srt) = tt
@@ -62,7 +62,7 @@ upto = record { five = omega arith; six = omega arith; seven = omega arith }
 pub bad-read-numbered : Bad-read-numbered
 bad-read-numbered L s at n p b = read-numbered Upto upto (judged Upto upto fault-upto L) b
 
--- Of every layout, 5 to 12
+-- For every layout, 5 to 12
 pub payload-upto : {s : List ℕ} (L : Layout) {at n p : ℕ} → BadPayload s L at n p → (5 ≤ n) × (n ≤ 12)
 payload-upto L (bad-read b) = let (a, c) = bad-read-numbered L _ _ _ _ b in (a, omega arith)
 payload-upto L (bytes-remain h l) = omega arith

@@ -18,7 +18,7 @@ use Rattle.layout.specs.Theorems.{Bytes, Mapping-bad-read, Metadata-bad-
 use Rattle.layout.proofs.Judges.{Judged, Reads, read-numbered, judged}
 use Rattle.layout.proofs.Alone.{only-thirteen, refusal-alone}
 
--- The numbers that N has beside those of the judges
+-- The numbers besides those of the judges satisfy N
 record Alone (N : ℕ → Type 0) : Type 0 where
   one : N 1
   reads : Reads N
@@ -42,7 +42,7 @@ module _ (N : ℕ → Type 0) (k : Alone N) (L : Layout) (j : Judged N L) where
       go (ok g end) e q = rw (only-thirteen (leb (g .leafCount) (wholeRows table)) g table n p q) (k .thirteen)
       go (refuse a b) e q = let h : a ≡ n = ap (λ (x : Answer). x .number) q in rw (← h) (of-refusal (refusal-alone L entities s u a b .0 e))
 
--- A known tag's table finds only its own fault
+-- A table of tags finds only its own fault
 known-wrong : (f g : Fault) (rows : Tags) (n : ℕ) → known f rows n ≡ wrong g → f ≡ g
 known-wrong f g [] n e = cc
 known-wrong f g (row ∷ rows) n e = go (eqb n (row .0)) (known-wrong f g rows n) e
@@ -51,7 +51,7 @@ known-wrong f g (row ∷ rows) n e = go (eqb n (row .0)) (known-wrong f g rows n
     go true k q = let z : _≡_ {A = ℕ} 0 1 = cc in absurd (omega arith)
     go false k q = k q
 
--- The forms of layouts that refuse by 9 alone
+-- The forms of layouts that refuse only with 9
 module _ (N : ℕ → Type 0) (nine : N 9) where
   abbrev Follow : Tags → Type 0
   Follow [] = Unit {0}

@@ -23,12 +23,12 @@ pub follows-outside : (rows : Tags) (n : ℕ) → Outside rows n → follows row
 follows-outside [] n h = refl
 follows-outside (row ∷ rows) n h = rw (ne-eqb n (row .0) (h .0)) (follows-outside rows n (h .1))
 
--- Tags with nothing after each: n of them, from a on
+-- n tags from a on, with nothing after any of them
 abbrev pub bare : ℕ → ℕ → Tags
 bare a zero = []
 bare a (suc n) = a ⇒ nothing ∷ bare (suc a) n
 
--- A bare tag
+-- A tag with nothing after it
 pub bare-in : (f : Fault) (a k : ℕ) (rows : Tags) (n : ℕ) → a ≤ n → n < a + k → (known f (bare a k ++ rows) n ≡ fine) × (follows (bare a k ++ rows) n ≡ nothing)
 bare-in f a zero rows n h l = absurd (omega arith)
 bare-in f a (suc k) rows n h l = go (eqb n a) refl (λ e. bare-in f (suc a) k rows n (omega arith) (omega arith))

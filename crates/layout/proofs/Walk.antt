@@ -1,5 +1,5 @@
--- The reading of a layout from any source, by induction on the layout: what it answers is a proper value whose leaves stand
--- there (sound), and a proper value whose leaves stand there is its answer (complete).
+-- The reading of a layout from any source, by induction on the layout: what it returns is a proper value whose leaves are there
+-- (sound), and it returns any proper value whose leaves are there (complete).
 use Prim.Native.Nat.{ℕ}
 use mathlib.Core.Bool.{Bool, true, false}
 use mathlib.Core.List.{List, [], _∷_, _++_}
@@ -7,7 +7,7 @@ use mathlib.Core.Path.{_≡_, refl, ap, subst}
 use Rattle.layout.specs.Layout.{Sort, Leaf, plain, string, Fault, Verdict, fine, wrong, refusalOf, Layout, nothing, one, text, _then_, case, check, Value, leaves, valuesOf, Meets}
 use Rattle.layout.specs.Reading.{Outcome, ok, refuse, _>>=_, need, judged, Source, walk}
 
--- P holds of what is read, if it is not refused
+-- P holds of what is read, unless it is refused
 pub data All {S A : Type 0} (P : A → S → Type 0) : Outcome S A → Type 0 where
   given : {a : A} {st : S} → P a st → All P (ok a st)
   refused : {n p : ℕ} → All P (refuse n p)
@@ -63,7 +63,7 @@ module _ {S A : Type 0} {Q : ℕ → ℕ → Type 0} where
       go : Fails {S = S} {A = A} Q (refuse n p) → Q n p
       go (bad q) = q
 
--- What a source must keep: `Begins st ls end` says that the leaves ls stand at st, and that end comes after them
+-- What a source must guarantee: `Begins st ls end` means that the leaves ls are at st and end at `end`
 pub record Sound (S : Source) (F : Leaf → Type 0) (Begins : S .Position → List Leaf → S .Position → Type 0) : Type 0 where
   pub none : (st : S .Position) → Begins st [] st
   pub join : {st m end : S .Position} (a b : List Leaf) → Begins st a m → Begins m b end → Begins st (a ++ b) end

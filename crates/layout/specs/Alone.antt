@@ -1,4 +1,4 @@
--- One payload, metadata record or mapping alone: document 01, "When intake says no". Nothing here is taken from the reader.
+-- One payload, metadata record or mapping alone (docs/FORMAT.md, Refusals). Nothing here refers to the reader.
 use Prim.Native.Nat.{ℕ, _≤_, _<_}
 use mathlib.Core.List.{List, [], _∷_}
 use mathlib.Core.Path.{_≡_}
@@ -8,11 +8,11 @@ use Rattle.layout.specs.Written.{bytes, rowsFrom}
 use Rattle.layout.specs.BadReads.{BadPayload}
 use Rattle.layout.specs.Answers.{limit, Result, Given, Exact}
 
--- What leaves give that begin at the first byte
+-- What leaves give if the first of them is at the first byte
 abbrev pub given : (entities : ℕ) → List Leaf → Given
 given entities ls = record { entities = entities; leafCount = length ls; rows = rowsFrom 0 ls }
 
--- There are not too many bytes, and v derives them
+-- There are at most `limit` bytes, and v derives them
 pub record Derives (L : Layout) (s : List ℕ) (v : Value L) : Type 0 where
   pub small : length s ≤ limit
   pub proper : Proper L v
@@ -23,15 +23,15 @@ pub data RefusalAlone (L : Layout) (s : List ℕ) : (number place : ℕ) → Typ
   too-long : limit < length s → RefusalAlone L s 1 0
   bad-payload : {n p : ℕ} → length s ≤ limit → BadPayload s L 0 n p → RefusalAlone L s n p
 
--- Demand 3's statement for one value of a layout alone: a payload has 1 entity, metadata and a mapping have 0
+-- The statement of demand 3 for one value of a layout alone: a payload has 1 entity, metadata and a mapping have 0
 abbrev pub ExactAlone : Layout → (entities : ℕ) → List ℕ → List ℕ → Result → Type 0
 ExactAlone L entities s table r =
     Exact (Derives L s) (λ v. given entities (leaves L v)) (RefusalAlone L s) table r
 
--- The numbers that one payload alone is refused with
+-- The numbers with which one payload alone is refused
 abbrev pub payloadNumbers : List ℕ
 payloadNumbers = 1 ∷ 5 ∷ 6 ∷ 7 ∷ 8 ∷ 9 ∷ 10 ∷ 11 ∷ 12 ∷ 13 ∷ []
 
--- One metadata record or mapping alone
+-- The same for one metadata record or mapping alone
 abbrev pub metadataNumbers : List ℕ
 metadataNumbers = 1 ∷ 5 ∷ 6 ∷ 7 ∷ 9 ∷ 12 ∷ 13 ∷ []

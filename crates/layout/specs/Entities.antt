@@ -1,5 +1,6 @@
--- The layouts of the nine entities and of their parts, in the order of `decode_entity` and of the `read_` functions of
--- src/section.rs, by whose names they go. Beside a part stands the name of its field, beside a tag that of its case.
+-- The layouts of the nine entities and of their parts (docs/FORMAT.md, Entities to Declarations), in the order of
+-- `decode_entity` and of the `read_` functions of src/section.rs, and named after them. The comment on a part names its field,
+-- that on a tag its variant.
 use Prim.Native.Nat.{ℕ}
 use mathlib.Core.Bool.{cond, _||_}
 use mathlib.Core.List.{List, [], _∷_}
@@ -8,11 +9,11 @@ use lib.ListN.{getD}
 use Rattle.layout.specs.Layout.{Leaf, valuesOf, Verdict, fine, wrong, other-mapping, error-result, Layout, nothing, text, _then_, check}
 use Rattle.layout.specs.Forms.{number, flag, list, may, Tags, _⇒_, kinds, tags, tagsAfter}
 
--- O: a text that may be missing
+-- O: an optional text
 unfoldable pub OptionStr : Layout
 OptionStr = may text
 
--- A number that may be missing
+-- An optional number
 unfoldable pub OptionU32 : Layout
 OptionU32 = may number
 
@@ -20,7 +21,7 @@ OptionU32 = may number
 unfoldable pub StrList : Layout
 StrList = list text
 
--- Each number is there also where its flag is 0
+-- Each number is present even if its flag is 0
 unfoldable pub Numeric : Layout
 Numeric =
     flag  -- has_precision
@@ -82,7 +83,7 @@ argumentErrors =
     ∷ 7 ⇒ text  -- NotValidAsArgument
     ∷ []
 
--- Why a type is no argument
+-- Why a type is not valid as an argument
 unfoldable pub ArgumentError : Layout
 ArgumentError = tags argumentErrors
 
@@ -112,7 +113,7 @@ returnsErrors =
     ∷ 10 ⇒ nothing  -- Datum
     ∷ []
 
--- Why a type is not returned
+-- Why a type is not valid as a return
 unfoldable pub ReturnsError : Layout
 ReturnsError = tags returnsErrors
 
@@ -159,13 +160,13 @@ typeOrigins =
 unfoldable pub TypeOrigin : Layout
 TypeOrigin = tags typeOrigins
 
--- Where a type comes from
+-- The resolution of a type: its name and origin
 unfoldable pub Resolution : Layout
 Resolution =
     text  -- type_ident
     then TypeOrigin  -- type_origin
 
--- Where a type comes from, if that is known
+-- An optional resolution
 unfoldable pub OptionResolution : Layout
 OptionResolution = may Resolution
 
@@ -187,7 +188,7 @@ UsedType =
     then flag  -- optional
     then FunctionMetadataType  -- metadata
 
--- A used type that may be missing
+-- An optional used type
 unfoldable pub OptionUsedType : Layout
 OptionUsedType = may UsedType
 
@@ -201,7 +202,7 @@ PgExternArgument =
 unfoldable pub PgExternArgumentList : Layout
 PgExternArgumentList = list PgExternArgument
 
--- A type of an aggregate. An item of an iterated return, with its name and ty, is laid out alike
+-- A type of an aggregate. An item of an iterated return, with its name and ty, has the same layout
 unfoldable pub AggregateType : Layout
 AggregateType =
     OptionStr  -- name
@@ -211,7 +212,7 @@ AggregateType =
 unfoldable pub AggregateTypeList : Layout
 AggregateTypeList = list AggregateType
 
--- A list of such types that may be missing
+-- An optional list of such types
 unfoldable pub OptionAggregateTypeList : Layout
 OptionAggregateTypeList = may AggregateTypeList
 
@@ -260,7 +261,7 @@ ExternArg = tags externArgs
 unfoldable pub ExternArgList : Layout
 ExternArgList = list ExternArg
 
--- A search path that may be missing
+-- An optional search path
 unfoldable pub SearchPath : Layout
 SearchPath = may StrList
 
@@ -275,7 +276,7 @@ Operator =
     then flag  -- hashes
     then flag  -- merges
 
--- An operator that may be missing
+-- An optional operator
 unfoldable pub OptionOperator : Layout
 OptionOperator = may Operator
 
@@ -291,7 +292,7 @@ casts =
 unfoldable pub Cast : Layout
 Cast = tags casts
 
--- A cast that may be missing
+-- An optional cast
 unfoldable pub OptionCast : Layout
 OptionCast = may Cast
 
@@ -299,8 +300,8 @@ OptionCast = may Cast
 abbrev pub valueIn : List Leaf → ℕ → ℕ
 valueIn ls i = getD (valuesOf ls) i 0
 
--- The verdict on an argument-side result by its first two tags: the first is the result's; where that is Ok, the second is
--- the mapping's, which must be As or Numeric
+-- The verdict on an argument-side result from its first two tags: the first is the result's; if that is Ok, the second is the
+-- mapping's, which must be As or Numeric
 abbrev pub asOrNumeric : ℕ → ℕ → Verdict
 asOrNumeric result mapping =
     cond (eqb result 1) (cond (eqb mapping 1 || eqb mapping 3) fine (wrong other-mapping)) (wrong error-result)
@@ -327,7 +328,7 @@ sqlDeclareds =
     ∷ 3 ⇒ nothing  -- Function
     ∷ []
 
--- A declaration: its kind, its name, and only then the kind is judged
+-- A declaration: its kind, then its name; only then is the kind judged
 unfoldable pub SqlDeclared : Layout
 SqlDeclared = tagsAfter text sqlDeclareds
 
@@ -347,7 +348,7 @@ finalizeModifies =
 unfoldable pub FinalizeModify : Layout
 FinalizeModify = tags finalizeModifies
 
--- The same, if it is there
+-- The same, optional
 unfoldable pub OptionFinalizeModify : Layout
 OptionFinalizeModify = may FinalizeModify
 
@@ -363,7 +364,7 @@ parallelOptions =
 unfoldable pub ParallelOption : Layout
 ParallelOption = tags parallelOptions
 
--- The same, if it is there
+-- The same, optional
 unfoldable pub OptionParallelOption : Layout
 OptionParallelOption = may ParallelOption
 
@@ -500,6 +501,6 @@ entityKinds =
     ∷ 9 ⇒ Trigger
     ∷ []
 
--- One entity: its kind, and a value for each part of that kind's layout
+-- One entity: its kind, then a value for each part of that kind's layout
 unfoldable pub Entity : Layout
 Entity = kinds entityKinds

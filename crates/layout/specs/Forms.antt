@@ -1,4 +1,4 @@
--- The forms in which document 01 writes its layouts. T is `text`.
+-- The forms in which layouts are written (docs/FORMAT.md, Notation). T is `text`.
 use Prim.Native.Nat.{ℕ, zero, suc}
 use mathlib.Core.Bool.{cond}
 use mathlib.Core.List.{List, [], _∷_}
@@ -22,16 +22,16 @@ times (suc n) L = let rest = times n L in L then rest
 abbrev pub any : ℕ → Verdict
 any n = fine
 
--- A list: a count, then as many items
+-- A list: a count, then that many items
 abbrev pub list : Layout → Layout
 list L = case Count nothing any (λ n. times n L)
 
--- The thing, unless the flag is 0
+-- The optional part, unless the flag is 0
 abbrev pub onlyIf : Layout → ℕ → Layout
 onlyIf L zero = nothing
 onlyIf L (suc n) = L
 
--- "May": a flag, then the thing if 1
+-- "May": a flag, then the optional part if it is 1
 abbrev pub may : Layout → Layout
 may L = case Flag nothing any (onlyIf L)
 
@@ -40,7 +40,7 @@ infix 70 _⇒_
 abbrev pub _⇒_ : ℕ → Layout → ℕ × Layout
 n ⇒ L = (n, L)
 
--- A table of the tags that are known, with what follows each
+-- A table of the known tags, with what follows each
 abbrev pub Tags : Type 0
 Tags = List (ℕ × Layout)
 
@@ -62,6 +62,6 @@ kinds rows = case Kind nothing (known unknown-kind rows) (follows rows)
 abbrev pub tags : Tags → Layout
 tags rows = case Tag nothing (known unknown-tag rows) (follows rows)
 
--- A tag that is judged only after another part, which stands before what follows the tag
+-- A tag that is judged only after another part, which comes before what follows the tag
 abbrev pub tagsAfter : Layout → Tags → Layout
 tagsAfter L rows = case Tag L (known unknown-tag rows) (follows rows)

@@ -1,5 +1,5 @@
--- Layouts: what a part of an entity is made of; the values of a layout, which are its derivations; their leaves.
--- Nothing here is taken from the reader.
+-- Layouts: what a part of an entity consists of; the values of a layout, which are its derivations; their leaves
+-- (docs/FORMAT.md, Derivations). Nothing here refers to the reader.
 use Prim.Native.Nat.{ℕ, _<_}
 use mathlib.Core.List.{List, [], _∷_, _++_, map}
 use mathlib.Core.Path.{_≡_}
@@ -20,40 +20,40 @@ pub data Leaf : Type 0 where
   plain : Sort → ℕ → Leaf
   string : List ℕ → Leaf
 
--- The value of a leaf: of a text its byte length
+-- The value of a leaf; for a text, its length in bytes
 abbrev pub leafValue : Leaf → ℕ
 leafValue (plain srt n) = n
 leafValue (string t) = length t
 
--- The values of leaves, which are all that a judge sees: no judge sees the bytes of a text
+-- The values of leaves, which are all that a judge sees: it does not see the bytes of a text
 abbrev pub valuesOf : List Leaf → List ℕ
 valuesOf ls = map leafValue ls
 
--- What a layout itself refuses: an unknown kind; another unknown tag; of a declaration's result, a mapping that is neither As
--- nor Numeric, and an error
+-- What a layout itself refuses: an unknown kind; another unknown tag; in a declaration's result, a mapping other than As and
+-- Numeric, or an error
 pub data Fault : Type 0 where
   unknown-kind : Fault
   unknown-tag : Fault
   other-mapping : Fault
   error-result : Fault
 
--- The refusal's number for each
+-- The number of the refusal for each
 abbrev pub refusalOf : Fault → ℕ
 refusalOf unknown-kind = 8
 refusalOf unknown-tag = 9
 refusalOf other-mapping = 10
 refusalOf error-result = 11
 
--- What a judge says
+-- The verdict of a judge
 pub data Verdict : Type 0 where
   fine : Verdict
   wrong : Fault → Verdict
 
 infixr 30 _then_
--- `one srt`: a leaf that holds a number. `text`: a text. `A then B`: A, and B after it.
--- `case srt before judge branch`: a leaf that holds a number n, then `before`; only then n is judged; then `branch n`.
+-- `one srt`: a leaf that holds a number. `text`: a text. `A then B`: A, then B.
+-- `case srt before judge branch`: a leaf that holds a number n, then `before`; only then is n judged; then `branch n`.
 -- `check A judge`: A, whose leaves are then judged by their values.
--- What is judged wrong is refused at the leaf's place, or at the place where A begins.
+-- What is judged wrong is refused at the place of the leaf, or where A begins.
 pub data Layout : Type 0 where
   nothing : Layout
   one : Sort → Layout
@@ -80,7 +80,7 @@ leaves (A then B) v = leaves A (v .0) ++ leaves B (v .1)
 leaves (case srt A j B) v = plain srt (v .0) ∷ (leaves A (v .1) ++ leaves (B (v .0)) (v .2))
 leaves (check A j) v = leaves A v
 
--- Each leaf is as F says, and each judge finds it fine
+-- F holds of each leaf, and each judge finds it fine
 abbrev pub Meets : (F : Leaf → Type 0) (L : Layout) → Value L → Type 0
 Meets F nothing v = Unit {0}
 Meets F (one srt) n = F (plain srt n)
@@ -89,7 +89,7 @@ Meets F (A then B) v = Meets F A (v .0) × Meets F B (v .1)
 Meets F (case srt A j B) v = F (plain srt (v .0)) × Meets F A (v .1) × (j (v .0) ≡ fine) × Meets F (B (v .0)) (v .2)
 Meets F (check A j) v = Meets F A v × (j (valuesOf (leaves A v)) ≡ fine)
 
--- What a leaf's number stays below: a byte, 0 or 1, four bytes
+-- The bound below which a leaf's number must be: a byte, 0 or 1, four bytes
 abbrev pub bound : Sort → ℕ
 bound Kind = 256
 bound Tag = 256
@@ -97,7 +97,7 @@ bound Flag = 2
 bound Number = 4294967296
 bound Count = 4294967296
 
--- A number fits its bytes; a text is valid by RFC 3629, and its length fits four bytes
+-- A number fits its bytes; a text is valid UTF-8, and its length fits four bytes
 abbrev pub Fits : Leaf → Type 0
 Fits (plain srt n) = n < bound srt
 Fits (string t) = Utf8 t × (length t < 4294967296)

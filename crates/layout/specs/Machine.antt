@@ -1,5 +1,4 @@
--- What goes through a layout one leaf after the other, with a state that it hands on: a reading's cursor with its table, or a
--- writer.
+-- A pass over a layout, leaf by leaf, that carries a state: a reading's cursor with its table, or a writer.
 use Prim.Native.Nat.{ℕ}
 use mathlib.Core.List.{List}
 use Rattle.layout.specs.Layout.{Sort, Leaf, valuesOf, Fault, Verdict, fine, wrong, Layout, nothing, one, text, _then_, case, check}
@@ -9,11 +8,11 @@ use Rattle.layout.specs.Reading.{Outcome, ok, refuse}
 pub record Machine (T : Type 0) : Type 0 where
   pub plainStep : Sort → T → T
   pub textStep : T → T
-  -- the value of the leaf that was last
+  -- the value of the last leaf
   pub value : T → ℕ
-  -- a state that is refused, since what began at another state is wrong
+  -- the state refused, for a fault in what began at another state
   pub halt : Fault → (begin state : T) → T
-  -- what a judge says of the leaves of a layout that begin at a state
+  -- the verdict of a judge on the leaves of a layout that begin at a state
   pub verdict : Layout → (judge : List ℕ → Verdict) → T → Verdict
 
 -- The verdict on leaves, if they were not refused
@@ -22,7 +21,7 @@ verdictOn judge (ok ls end) = judge (valuesOf ls)
 verdictOn judge (refuse n p) = fine
 
 module _ {T : Type 0} (M : Machine T) where
-  -- A verdict passed on what began at a state
+  -- A verdict applied to what began at a state
   abbrev pub pass : Verdict → (begin state : T) → T
   pass fine begin st = st
   pass (wrong f) begin st = M .halt f begin st

@@ -1,4 +1,4 @@
--- Reading a layout from bytes, by document 01's refusals 5 to 11: the first bad read is refused.
+-- Reading a layout from bytes, with the refusals 5 to 11 (docs/FORMAT.md, Refusals): the first bad read is refused.
 use Prim.Native.Nat.{ℕ, _+_, _*_}
 use mathlib.Core.Bool.{Bool, true, false}
 use mathlib.Core.List.{List}
@@ -7,14 +7,14 @@ use lib.ListN.{length, getD, take, drop}
 use Rattle.layout.specs.Layout.{Sort, Kind, Tag, Flag, Number, Count, Leaf, Verdict, fine, wrong, refusalOf, Layout, nothing, one, text, _then_, case, check, Value, leaves, valuesOf}
 use Rattle.text.specs.Walk as automaton
 
--- What a read comes to: a value and the state after it, or a refusal's number and place
+-- The outcome of a read: a value and the state after it, or a refusal's number and place
 pub data Outcome (S A : Type 0) : Type 0 where
   ok : A → S → Outcome S A
   refuse : (number place : ℕ) → Outcome S A
 
 module _ {S A : Type 0} where
   infixl 20 _>>=_
-  -- What comes next, unless it is refused
+  -- The next read, unless this one is refused
   abbrev pub _>>=_ : {B : Type 0} → Outcome S A → (A → S → Outcome S B) → Outcome S B
   ok a st >>= next = next a st
   refuse n p >>= next = refuse n p
@@ -55,7 +55,7 @@ walk S (check A j) st = walk S A st >>= λ a st₁. judged (j (valuesOf (leaves 
 abbrev pub leavesAt : (S : Source) (L : Layout) → S .Position → Outcome (S .Position) (List Leaf)
 leavesAt S L st = walk S L st >>= λ v end. ok (leaves L v) end
 
--- A text is valid by RFC 3629
+-- A text is valid UTF-8 (RFC 3629)
 unfoldable pub utf8 : List ℕ → Bool
 utf8 t = automaton.utf8 t
 
@@ -87,11 +87,11 @@ plainAt s Flag at = flagAt s at
 plainAt s Number at = fourAt s at
 plainAt s Count at = fourAt s at
 
--- A text of n bytes, behind its length: 5 there if it is too long, then 7
+-- A text of n bytes, after its length: 5 there if it is too long, then 7
 abbrev pub bodyAt : List ℕ → (n place : ℕ) → Outcome ℕ (List ℕ)
 bodyAt s n at = need (enough s at n) 5 at (need (utf8 (take n (drop at s))) 7 at (ok (take n (drop at s)) (at + n)))
 
--- The read of a text: its length, then as many bytes
+-- The read of a text: its length, then that many bytes
 abbrev pub textAt : List ℕ → ℕ → Outcome ℕ (List ℕ)
 textAt s at = fourAt s at >>= λ n at₁. bodyAt s n at₁
 

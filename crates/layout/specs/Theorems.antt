@@ -1,4 +1,4 @@
--- What is proved of the definitions, as statements, for every layout. Each comment names the proof, in proofs/.
+-- The theorems about the definitions, as statements, for every layout. Each comment names the proof, in proofs/.
 use Prim.Native.Nat.{ℕ, _+_, _*_, _≤_, _<_}
 use mathlib.Core.List.{List, [], _∷_, _++_, List·Memᴰ}
 use mathlib.Core.Logic.{_↔_}
@@ -18,7 +18,7 @@ use Rattle.layout.specs.ReadAlone.{readAlone, readingAlone}
 abbrev pub Bytes : List ℕ → Type 0
 Bytes s = (i : ℕ) → i < length s → getD s i 0 < 256
 
--- An answer that its number tells: it accepts exactly if the number is 0
+-- An answer accepts exactly if its number is 0
 abbrev pub Told : Answer → Type 0
 Told a = eqb (a .number) 0 ≡ a .accepts
 
@@ -38,7 +38,7 @@ abbrev pub Value-unique : Type 0
 Value-unique =
     (L : Layout) (v w : Value L) (r t : List ℕ) → Proper L v → Proper L w → bytes L v ++ r ≡ bytes L w ++ t → (v ≡ w) × (r ≡ t)
 
--- A leaf takes a byte at least: `leaf-byte` in Rows.antt
+-- A leaf takes at least one byte: `leaf-byte` in Rows.antt
 abbrev pub Leaf-byte : Type 0
 Leaf-byte = (x : Leaf) → 1 ≤ length (leafBytes x)
 
@@ -46,15 +46,15 @@ Leaf-byte = (x : Leaf) → 1 ≤ length (leafBytes x)
 abbrev pub Leaves-bytes : Type 0
 Leaves-bytes = (ls : List Leaf) → length ls ≤ length (bytesOf ls)
 
--- A row for each leaf: `rows-length` in Rows.antt
+-- There is a row for each leaf: `rows-length` in Rows.antt
 abbrev pub Rows-length : Type 0
 Rows-length = (at : ℕ) (ls : List Leaf) → length (rowsFrom at ls) ≡ rowWidth * length ls
 
--- The rows of later leaves begin behind the bytes of those before them: `rows-append` in Rows.antt
+-- The rows of later leaves begin after the bytes of those before them: `rows-append` in Rows.antt
 abbrev pub Rows-append : Type 0
 Rows-append = (at : ℕ) (a b : List Leaf) → rowsFrom at (a ++ b) ≡ rowsFrom at a ++ rowsFrom (at + length (bytesOf a)) b
 
--- The reading of one value alone is as demand 3 states it: `alone-exact` in Alone.antt
+-- The reading of one value alone meets the statement of demand 3: `alone-exact` in Alone.antt
 abbrev pub Alone-exact : Type 0
 Alone-exact =
     (L : Layout) (entities : ℕ) (s : List ℕ) → Bytes s → (table : List ℕ) → ExactAlone L entities s table (readingAlone L entities s table)
@@ -64,7 +64,7 @@ abbrev pub Refusal-alone : Type 0
 Refusal-alone =
     (L : Layout) (entities : ℕ) (s : List ℕ) → Bytes s → (n p : ℕ) → (readAlone L entities s ≡ refuse n p) ↔ RefusalAlone L s n p
 
--- And nothing else is: `alone-only` in Alone.antt
+-- And no other result meets it: `alone-only` in Alone.antt
 abbrev pub Alone-only : Type 0
 Alone-only =
     (L : Layout) (entities : ℕ) (s : List ℕ) → Bytes s → (table : List ℕ) (r : Result)
@@ -75,11 +75,11 @@ abbrev pub Alone-told : Type 0
 Alone-told =
     (L : Layout) (entities : ℕ) (s : List ℕ) → Bytes s → (table : List ℕ) → Told (readingAlone L entities s table .answer)
 
--- A bad read's number is one of 5 to 11: `bad-read-numbered` in Judges.antt
+-- The number of a bad read is one of 5 to 11: `bad-read-numbered` in Judges.antt
 abbrev pub Bad-read-numbered : Type 0
 Bad-read-numbered = (L : Layout) (s : List ℕ) (at n p : ℕ) → BadRead s L at n p → (5 ≤ n) × (n ≤ 11)
 
--- In a mapping, wherever it stands, 5 to 7 or 9: `mapping-bad-read` in Numbered.antt
+-- In a mapping, wherever it occurs, it is 5 to 7 or 9: `mapping-bad-read` in Numbered.antt
 abbrev pub Mapping-bad-read : Type 0
 Mapping-bad-read = (s : List ℕ) (at n p : ℕ) → BadRead s SqlMapping at n p → List·Memᴰ n (5 ∷ 6 ∷ 7 ∷ 9 ∷ [])
 
@@ -87,18 +87,18 @@ Mapping-bad-read = (s : List ℕ) (at n p : ℕ) → BadRead s SqlMapping at n p
 abbrev pub Metadata-bad-read : Type 0
 Metadata-bad-read = (s : List ℕ) (at n p : ℕ) → BadRead s FunctionMetadataType at n p → List·Memᴰ n (5 ∷ 6 ∷ 7 ∷ 9 ∷ [])
 
--- A payload alone is refused by 1 and 5 to 13 only: `payload-numbered` in Numbered.antt
+-- A payload alone is refused only with 1 and 5 to 13: `payload-numbered` in Numbered.antt
 abbrev pub Payload-numbered : Type 0
 Payload-numbered =
     (s : List ℕ) → Bytes s → (table : List ℕ) (n p : ℕ) → readingAlone Entity 1 s table .answer ≡ refused n p → List·Memᴰ n payloadNumbers
 
--- A metadata record alone by 1, 5 to 7, 9, 12 and 13 only: `metadata-numbered` in Numbered.antt
+-- A metadata record alone only with 1, 5 to 7, 9, 12 and 13: `metadata-numbered` in Numbered.antt
 abbrev pub Metadata-numbered : Type 0
 Metadata-numbered =
     (s : List ℕ) → Bytes s → (table : List ℕ) (n p : ℕ)
     → readingAlone FunctionMetadataType 0 s table .answer ≡ refused n p → List·Memᴰ n metadataNumbers
 
--- And so a mapping: `mapping-numbered` in Numbered.antt
+-- And likewise a mapping: `mapping-numbered` in Numbered.antt
 abbrev pub Mapping-numbered : Type 0
 Mapping-numbered =
     (s : List ℕ) → Bytes s → (table : List ℕ) (n p : ℕ) → readingAlone SqlMapping 0 s table .answer ≡ refused n p → List·Memᴰ n metadataNumbers

@@ -1,4 +1,5 @@
--- What a value derives: the bytes of its leaves, and their rows. Nothing here is taken from the reader.
+-- What a value derives: the bytes of its leaves, and their rows (docs/FORMAT.md, Derivations and Rows). Nothing here refers to
+-- the reader.
 use Prim.Native.Nat.{ℕ, _+_, _*_, _/_, _%_}
 use mathlib.Core.List.{List, [], _∷_, _++_}
 use mathlib.Core.Path.{_≡_}
@@ -17,7 +18,7 @@ plainBytes Flag n = n ∷ []
 plainBytes Number n = four n
 plainBytes Count n = four n
 
--- How many bytes these are
+-- The number of these bytes
 abbrev pub width : Sort → ℕ
 width Kind = 1
 width Tag = 1
@@ -39,15 +40,15 @@ bytesOf (x ∷ ls) = leafBytes x ++ bytesOf ls
 abbrev pub bytes : (L : Layout) → Value L → List ℕ
 bytes L v = bytesOf (leaves L v)
 
--- The bytes b stand in s from `at` up to `end`
+-- The bytes b are in s from `at` up to `end`
 abbrev pub Stand : List ℕ → (at : ℕ) → List ℕ → (end : ℕ) → Type 0
 Stand s at b end = (drop at s ≡ b ++ drop end s) × (end ≡ at + length b)
 
--- The numbers of a row
+-- How many numbers a row has
 abbrev pub rowWidth : ℕ
 rowWidth = 3
 
--- The sort's number in a row
+-- The number of a sort in a row
 abbrev pub sortNumber : Sort → ℕ
 sortNumber Kind = 1
 sortNumber Tag = 2
@@ -55,16 +56,17 @@ sortNumber Flag = 3
 sortNumber Number = 4
 sortNumber Count = 5
 
--- A text's sort
+-- The sort of a text
 abbrev pub textSort : ℕ
 textSort = 6
 
--- The row of a leaf that begins at a place: sort, offset, value. A text's offset is its first byte after its 4-byte length
+-- The row of a leaf that begins at a place: sort, offset, value. The offset of a text is that of its first byte, after its
+-- 4-byte length
 abbrev pub rowAt : ℕ → Leaf → List ℕ
 rowAt at (plain srt n) = sortNumber srt ∷ at ∷ n ∷ []
 rowAt at (string t) = textSort ∷ (at + 4) ∷ length t ∷ []
 
--- The rows of leaves of which the first begins at a place
+-- The rows of leaves, the first of which begins at a place
 abbrev pub rowsFrom : ℕ → List Leaf → List ℕ
 rowsFrom at [] = []
 rowsFrom at (x ∷ ls) = rowAt at x ++ rowsFrom (at + length (leafBytes x)) ls

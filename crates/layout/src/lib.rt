@@ -1,10 +1,10 @@
-// The constants of the format. Those of src/section.rs, which tell the parts of an entity apart, are wider than the bytes that
-// they are compared with, since a cursor holds the value of any leaf.
+// The constants of the format. Those of src/section.rs, which tell the parts of an entity apart, are wider than the bytes they
+// are compared with, since a cursor holds the value of any leaf.
 
 // The most bytes that are read, and the most that are written.
 pub const LIMIT: usize = 16777216;
 
-// The numbers of a row.
+// How many numbers a row has.
 pub const ROW_WIDTH: usize = 3;
 
 // The sorts of a row.

@@ -47,7 +47,7 @@ pub run-length : (L : Layout) (s : List ℕ) (st : ReadState) → length (run L 
 run-length L s st =
     drive-kept (reader s) (λ (x : ReadState). length (x .table)) (record { plainly = λ srt x. plain-length srt s x; textly = text-length s; halted = λ f begin x. refl }) L st
 
--- Refusals of tables of one length are the same
+-- Refusals for tables of the same length are the same
 refusal-same : (n p : ℕ) (t u : List ℕ) → length t ≡ length u → refusal n p t ≡ refusal n p u
 refusal-same n p t u e = rw e
 
@@ -74,7 +74,8 @@ module _ (entities : ℕ) (st : ReadState) where
     unfolding answered
     answered-whole h = rw (eq-eqb _ _ z, le-leb (st .cursor .rows) (wholeRows (st .table)) h)
 
--- A state at the end that has stored what is given, or has counted more rows than the table has, is told through the table that it began with
+-- The state at the end has stored what is given, or has counted more rows than the table has: its answer is that through the
+-- table it began with
 pub answered-told : (g : Given) (end : ℕ) (table : List ℕ) (st : ReadState) → st .cursor .refusal ≡ 0 → length (st .table) ≡ length table
     → (g .leafCount ≤ wholeRows table → (st .cursor .rows ≡ g .leafCount) × (take (rowWidth * st .cursor .rows) (st .table) ≡ g .rows))
     → (wholeRows table < g .leafCount → wholeRows table < st .cursor .rows)
@@ -100,11 +101,11 @@ module _ (entities : ℕ) (s : List ℕ) (st : ReadState) where
   alone-short h = rw (le-leb (length s) limit h)
 
 module _ (entities : ℕ) (s table : List ℕ) (small : length s ≤ limit) where
-  -- The rest of the reading alone, behind `read`
+  -- The rest of the reading alone, after `read`
   abbrev ended : Outcome ℕ (List Leaf) → Result
   ended o = throughTable (o >>= λ ls end. need (leb (length s) end) 12 end (ok (given entities ls) end)) table
 
-  -- What is left of a state once the end is tested
+  -- The result of a state once the end is tested
   through : (ls : List Leaf) (next : ℕ) (b : Bool) → leb (length s) next ≡ b → arriveAll ls (readState newCursor table) .cursor .at ≡ next
       → answeredAlone entities s (arriveAll ls (readState newCursor table)) ≡ throughTable (need b 12 next (ok (given entities ls) next)) table
   through ls next true e q =
@@ -141,7 +142,7 @@ run-alone L entities s table = go (leb (length s) limit) refl
     go true e = by-outcome entities s table (leb-true _ _ e) (read L s 0) (run L s (readState newCursor table)) (run-read s (leb-true _ _ e) L (readState newCursor table) refl)
     go false e = alone-long entities s (run L s (readState newCursor table)) (leb-false _ _ e) ∙ refusal-same 1 0 (run L s (readState newCursor table) .table) table (run-length L s (readState newCursor table))
 
--- What a function promises that reads one value alone, from its three calls
+-- The contract of a function that reads one value alone, from its three calls
 pub decoded : (L : Layout) (entities : ℕ) (s table : List ℕ) (c : Cursor) (st : ReadState) (r : Result) → Bytes s
     → c ≡ newCursor → st ≡ run L s (readState c table) → r ≡ answeredAlone entities s st
     → (r ≡ readingAlone L entities s table) × ExactAlone L entities s table r

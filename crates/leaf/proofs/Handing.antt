@@ -1,4 +1,4 @@
--- What a function needs that hands its cursor on to another.
+-- Lemmas for functions that pass their cursor on to another.
 use Prim.Native.Nat.{ℕ, _+_, _≤_, _<_}
 use native.Mathlib.Omega.{arith}
 use mathlib.Core.Bool.{Bool, true, false}
@@ -15,7 +15,7 @@ use Rattle.leaf.specs.Run.{run}
 pub copy-in : (L : Layout) (s table : List ℕ) (c c₁ : Cursor) (r : ReadState) → c₁ ≡ c → r ≡ run L s (readState c₁ table) → r ≡ run L s (readState c table)
 copy-in L s table c c₁ r e q = q ∙ ap (λ (x : Cursor). run L s (readState x table)) e
 
--- A number from a on and below a + 2 is one of two: what holds in each case holds
+-- A number of at least a and below a + 2 is one of two: what holds in both cases holds
 pub of-two : {G : Type 0} (a n : ℕ) → a ≤ n → n < a + 2 → (n ≡ a → G) → (n ≡ a + 1 → G) → G
 of-two {G = G} a n h l f g = go (eqb n a) refl
   where

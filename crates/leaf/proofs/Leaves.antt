@@ -1,4 +1,4 @@
--- What the read of a leaf comes to, from the tests on it.
+-- The result of reading a leaf, from the tests on it.
 use Prim.Native.Nat.{ℕ, _+_, _≤_, _<_}
 use native.Mathlib.Omega.{arith}
 use mathlib.Core.Bool.{true, false}
@@ -16,7 +16,7 @@ use Rattle.leaf.specs.State.{ReadState, readState, stopped, stop, put, a
 use Rattle.leaf.specs.Private.{putNumber}
 use Rattle.text.specs.Walk as automaton
 
--- A number that is put with its sort's number arrives as a leaf of the sort
+-- A number stored with its sort's number is a leaf of that sort
 pub number-arrives : (srt : Sort) (o : Outcome ℕ ℕ) (st : ReadState) → putNumber (sortNumber srt) o st ≡ arrive (o >>= λ n next. ok (plain srt n) next) st
 number-arrives srt (ok n next) st = refl
 number-arrives srt (refuse n p) st = refl

@@ -30,14 +30,14 @@ pub arriveAll-refusal : (ls : List Leaf) (st : ReadState) → arriveAll ls st .c
 arriveAll-refusal [] st = refl
 arriveAll-refusal (x ∷ ls) st = arriveAll-refusal ls (push x st)
 
--- What a layout itself refuses has a number
+-- The number of a fault is not 0
 refusal-not-0 : (f : Fault) → refusalOf f ≡ 0 → ⊥
 refusal-not-0 unknown-kind e = omega arith
 refusal-not-0 unknown-tag e = omega arith
 refusal-not-0 other-mapping e = omega arith
 refusal-not-0 error-result e = omega arith
 
--- How a cursor with its table goes through bytes
+-- How a cursor with its table moves through bytes
 abbrev gait : (s : List ℕ) → Gait (inBytes s) ReadState
 gait s = record {
   at = λ st. st .cursor .at;
@@ -57,7 +57,7 @@ moved-of (moved h) = h
 pub stops-of : {st r : ReadState} {n p : ℕ} → Follows st r (refuse n p) → (r .cursor .refusal ≡ n) × (n ≡ 0 → ⊥) × (r .cursor .at ≡ p) × (length (r .table) ≡ length (st .table))
 stops-of (stops h) = h
 
--- What the read of a leaf answers: a step of the leaf's width, or a refusal
+-- The outcome of reading a leaf: a step of the leaf's width, or a refusal
 data Strides (at w : ℕ) : Outcome ℕ ℕ → Type 0 where
   far : {v next : ℕ} → next ≡ at + w → Strides at w (ok v next)
   not : {n p : ℕ} → (n ≡ 0 → ⊥) → Strides at w (refuse n p)
@@ -151,7 +151,7 @@ run-read s small L st z = go (follow (inBytes s) (reader s) (gait s) (reader-kee
     go (layout.moved {ls = ls} {next = next} h) = moved {ls = ls} {next = next} (h .0 ∙ pushAll-arrive ls st, h .1)
     go (layout.stops h) = stops h
 
--- Of too many bytes, what begins with a leaf is refused
+-- With too many bytes, a layout that begins with a leaf is refused
 plain-long : (srt : Sort) (s : List ℕ) (st : ReadState) → limit < length s → st .cursor .refusal ≡ 0 → stop 1 0 st ≡ run (one srt) s st
 unfolding drive readPlain guarded
 plain-long srt s st h k = rw (eq-eqb _ _ k, lt-leb (length s) limit h)
@@ -164,7 +164,7 @@ case-long srt A j B s st h k =
     case-law srt A j B (reader s) st x (plain-long srt s st h k)
     ∙ rw (run-refused A s x w, pass-refused s (j n) st x w) (run-refused (B n) s x w)
 
--- What begins with a leaf and was not refused was read
+-- A layout that begins with a leaf, and was not refused, was read
 pub case-read : (srt : Sort) (A : Layout) (j : ℕ → Verdict) (B : ℕ → Layout) (s : List ℕ) (st : ReadState)
     → run (case srt A j B) s st .cursor .refusal ≡ 0 → (ls : List Leaf) × (next : ℕ) × (read (case srt A j B) s (st .cursor .at) ≡ ok ls next)
 case-read srt A j B s st z = begun (eqb (st .cursor .refusal) 0) refl

@@ -1,4 +1,4 @@
--- A refused cursor stays as it is.
+-- A refused cursor does not change.
 use Prim.Native.Nat.{ℕ}
 use mathlib.Core.List.{List}
 use mathlib.Core.Path.{_≡_}
@@ -41,6 +41,6 @@ run-refused L s st h = drive-still (reader s) Refused (reader-still s) L st h
 pub pass-refused : (s : List ℕ) (v : Verdict) (begin st : ReadState) → Refused st → pass (reader s) v begin st ≡ st
 pass-refused s v begin st h = pass-still (reader s) Refused (reader-still s) v begin st h
 
--- So a loop that comes to w may end there
+-- So a loop whose result is w may end early, at a refused cursor
 pub loop-refused : (L : Layout) (s : List ℕ) (w st : ReadState) → w ≡ run L s st → Refused st → st ≡ w
 loop-refused L s w st e h = loop-still (reader s) Refused (reader-still s) L w st e h

@@ -29,7 +29,7 @@ store-take (x ∷ xs) t i h =
     let f : take (i + 1) (set t i x) ≡ take i t ++ (x ∷ []) = rw b (take-suc-set t i x (omega arith)) in
     ap (λ (n : ℕ). take n (store (set t i x) (i + 1) xs)) a ∙ e ∙ ap (λ (l : List ℕ). l ++ xs) f ∙ append-assoc (take i t) (x ∷ []) xs
 
--- A leaf behind where a state stands
+-- A leaf, read where a state is positioned
 abbrev pub push : Leaf → ReadState → ReadState
 push x st = arrive (ok x (st .cursor .at + length (leafBytes x))) st
 
@@ -52,7 +52,7 @@ pub arriveAll-length : (ls : List Leaf) (st : ReadState) → length (arriveAll l
 arriveAll-length [] st = refl
 arriveAll-length (x ∷ ls) st = arriveAll-length ls (push x st) ∙ push-length x st
 
--- The rows of ls are stored behind those of st
+-- The rows of ls are stored after those of st
 pub record Filled (at : ℕ) (ls : List Leaf) (st r : ReadState) : Type 0 where
   pub rows : r .cursor .rows ≡ st .cursor .rows + length ls
   pub front : take (rowWidth * r .cursor .rows) (r .table) ≡ take (rowWidth * st .cursor .rows) (st .table) ++ rowsFrom at ls
@@ -74,7 +74,7 @@ fills (x ∷ ls) st h =
     let i = fills ls (push x st) (omega (arith, a, ap (λ (n : ℕ). n / rowWidth) (push-length x st))) in
     record { rows = omega (arith, i .rows, a); front = i .front ∙ rw (b, append-assoc) }
 
--- Fitting or not, rows are counted up to one more than the table has
+-- Whether they fit or not, rows are counted up to one more than the table has
 pub counts : (ls : List Leaf) (st : ReadState) → min (st .cursor .rows + length ls) (wholeRows (st .table) + 1) ≤ arriveAll ls st .cursor .rows
 counts [] st = omega arith
 counts (x ∷ ls) st = omega (arith, counts ls (push x st), ap (λ (n : ℕ). n / rowWidth) (push-length x st))

@@ -1,4 +1,4 @@
--- The answer of a reading, from where it stands at its end.
+-- The answer of a reading, from its state at the end.
 use Prim.Native.Nat.{ℕ, _*_}
 use mathlib.Core.Bool.{cond}
 use mathlib.Core.List.{List}
@@ -8,7 +8,7 @@ use Rattle.layout.specs.Written.{rowWidth}
 use Rattle.layout.specs.Answers.{limit, Result, wholeRows, refusal, acceptance}
 use Rattle.leaf.specs.State.{ReadState, readState, finishedAt}
 
--- The refusal that the cursor met; 13; or what was stored, then only 0
+-- The cursor's refusal; 13; or what was stored, then only 0
 unfoldable pub answered : (entities : ℕ) → ReadState → Result
 answered entities st =
     let c = st .cursor in
@@ -19,7 +19,7 @@ answered entities st =
     (refusal 13 0 table))
     (refusal (c .refusal) (c .at) table)
 
--- The same of one value that is read alone, from all bytes of s: 1 comes first, and 12 before 13
+-- The same for one value that is read alone, from all bytes of s: 1 comes first, and 12 before 13
 unfoldable pub answeredAlone : (entities : ℕ) → List ℕ → ReadState → Result
 answeredAlone entities s st =
     cond (leb (length s) limit)

@@ -1,4 +1,4 @@
--- What the reading of a layout makes of a cursor and its table, one leaf after the other.
+-- The effect of reading a layout on a cursor and its table, leaf by leaf.
 use Prim.Native.Nat.{ℕ}
 use mathlib.Core.List.{List}
 use Rattle.layout.specs.Layout.{refusalOf, Layout}
@@ -16,6 +16,6 @@ reader s = record {
   verdict = λ A judge st. verdictOn judge (read A s (st .cursor .at));
 }
 
--- The reading of a layout. `Run-read` in Theorems.antt says what it comes to by `read`
+-- The reading of a layout. `Run-read` in Theorems.antt states it in terms of `read`
 abbrev pub run : Layout → List ℕ → ReadState → ReadState
 run L s st = drive (reader s) L st

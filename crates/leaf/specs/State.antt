@@ -1,4 +1,4 @@
--- Where a reading stands: a cursor, and the table that it fills; and what the read of one leaf makes of the two.
+-- The state of a reading: a cursor, and the table that it fills; and the effect of reading one leaf.
 use Prim.Native.Nat.{ℕ, _+_, _*_, min}
 use mathlib.Core.Bool.{Bool, cond}
 use mathlib.Core.List.{List, [], _∷_}
@@ -19,7 +19,7 @@ pub record ReadState : Type 0 where
 abbrev pub readState : Cursor → List ℕ → ReadState
 readState c table = record { cursor = c; table = table }
 
--- The cursor of a reading that begins
+-- The cursor at the start of a reading
 abbrev pub newCursor : Cursor
 newCursor = record { at = 0; rows = 0; refusal = 0; value = 0 }
 
@@ -27,7 +27,7 @@ newCursor = record { at = 0; rows = 0; refusal = 0; value = 0 }
 abbrev pub seek : (at : ℕ) → Cursor → Cursor
 seek at c = record { at = at; rows = c .rows; refusal = c .refusal; value = c .value }
 
--- The cursor, refused: it stands at the place of the refusal
+-- The cursor, refused: its position is the place of the refusal
 abbrev pub stopped : (number place : ℕ) → Cursor → Cursor
 stopped n p c = record { at = p; rows = c .rows; refusal = n; value = c .value }
 
@@ -35,7 +35,7 @@ stopped n p c = record { at = p; rows = c .rows; refusal = n; value = c .value }
 abbrev pub refusedOnce : (number place : ℕ) → Cursor → Cursor
 refusedOnce n p c = cond (eqb (c .refusal) 0) (stopped n p c) c
 
--- The cursor at the end of a payload: 12 where it stands, if bytes remain
+-- The cursor at the end of a payload: 12 at its position, if bytes remain
 abbrev pub finishedAt : (end : ℕ) → Cursor → Cursor
 finishedAt end c = cond (ltb (c .at) end) (refusedOnce 12 (c .at) c) c
 
@@ -48,12 +48,12 @@ abbrev pub store : List ℕ → (index : ℕ) → List ℕ → List ℕ
 store table i [] = table
 store table i (x ∷ xs) = store (set table i x) (i + 1) xs
 
--- The table has room for a whole row behind those stored so far
+-- The table has room for a whole row after those stored so far
 abbrev pub room : ReadState → Bool
 room st = ltb (st .cursor .rows) (wholeRows (st .table))
 
--- A leaf is read: its row is stored if there is room, and the reading goes on behind it. Rows are counted up to one more than the
--- table has
+-- A leaf is read: its row is stored if there is room, and the reading continues after it. Rows are counted up to one more than
+-- the table has
 abbrev pub put : (row : List ℕ) (value next : ℕ) → ReadState → ReadState
 put row value next st =
     let c = st .cursor in
@@ -61,12 +61,12 @@ put row value next st =
     (record { at = next; rows = min (c .rows) (wholeRows (st .table)) + 1; refusal = c .refusal; value = value })
     (cond (room st) (store (st .table) (rowWidth * c .rows) row) (st .table))
 
--- What a leaf's read makes of a state: its row is put, or it is refused
+-- The effect of reading a leaf on a state: its row is stored, or the read is refused
 abbrev pub arrive : Outcome ℕ Leaf → ReadState → ReadState
 arrive (ok x next) st = put (rowAt (st .cursor .at) x) (leafValue x) next st
 arrive (refuse n p) st = stop n p st
 
--- A refused cursor stays as it is; too many bytes are refused first
+-- A refused cursor does not change; too many bytes are refused first
 unfoldable pub guarded : List ℕ → (out st : ReadState) → ReadState
 guarded s out st = cond (eqb (st .cursor .refusal) 0) (cond (leb (length s) limit) out (stop 1 0 st)) st
 

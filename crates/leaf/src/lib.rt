@@ -13,8 +13,8 @@ ghost use Rattle.leaf.specs.Run.{run};
 ghost use Rattle.leaf.specs.Answered.{answered, answeredAlone};
 ghost use Rattle.leaf.specs.Private.{putNumber};
 
-// Where a reading stands: `at`, the next byte, or the place of the refusal; `rows`, the rows stored so far, or one more than the
-// table has, once a row did not fit; `refusal`, 0 or the number of the refusal; `value`, the value of the leaf read last. A
+// The state of a reading: `at`, the next byte, or the place of the refusal; `rows`, the rows stored so far, or one more than
+// the table has once a row did not fit; `refusal`, 0 or the number of the refusal; `value`, the value of the last leaf read. A
 // refused cursor reads nothing more.
 pub struct Cursor {
     pub at: usize,
@@ -48,7 +48,7 @@ impl Cursor {
         }
     }
 
-    // The same cursor, field by field: a caller that hands the copy on to a call keeps its own in registers.
+    // The same cursor, field by field: a caller that passes the copy on keeps its own in registers.
     pub fn copy(self) -> Cursor
         ensures { λ r. ⌜ r ≡ self ⌝ }
     {
@@ -60,7 +60,7 @@ impl Cursor {
         }
     }
 
-    // The cursor, refused: it stands at the place of the refusal.
+    // The cursor, refused: its position is the place of the refusal.
     fn stop(self, number: u32, place: usize) -> Cursor
         ensures { λ r. ⌜ r ≡ stopped number place self ⌝ }
     {
@@ -82,7 +82,8 @@ impl Cursor {
         self.stop(number, place)
     }
 
-    // Behind a leaf, whose row is stored if the table has room for it. Rows are counted up to one more than the table has.
+    // The cursor after a leaf, whose row is stored if the table has room for it. Rows are counted up to one more than the table
+    // has.
     fn store(self, t: &mut [u32], sort: u32, offset: u32, value: u32, next: usize) -> Cursor
         ensures { λ r. ⌜ readState r (now (t .exit)) ≡ put (sort ∷ offset ∷ value ∷ []) value next (readState self (now (t .entry))) ⌝ }
     {
@@ -192,7 +193,7 @@ impl Cursor {
         self.four(s, t, layout::SORT_COUNT)
     }
 
-    // A text: its length, then as many bytes.
+    // A text: its length, then that many bytes.
     pub fn read_str(self, s: &[u8], t: &mut [u32]) -> Cursor
         ensures { λ r. ⌜ readState r (now (t .exit)) ≡ run text (now (s .entry)) (readState self (now (t .entry))) ⌝ }
     {
@@ -222,7 +223,7 @@ impl Cursor {
         self.stop(7, start)
     }
 
-    // A text that may be missing: a flag, then the text if 1.
+    // An optional text: a flag, then the text if it is 1.
     pub fn read_option_str(self, s: &[u8], t: &mut [u32]) -> Cursor
         ensures { λ r. ⌜ readState r (now (t .exit)) ≡ run OptionStr (now (s .entry)) (readState self (now (t .entry))) ⌝ }
     {
@@ -233,7 +234,7 @@ impl Cursor {
         c
     }
 
-    // A number that may be missing.
+    // An optional number.
     pub fn read_option_u32(self, s: &[u8], t: &mut [u32]) -> Cursor
         ensures { λ r. ⌜ readState r (now (t .exit)) ≡ run OptionU32 (now (s .entry)) (readState self (now (t .entry))) ⌝ }
     {
@@ -254,8 +255,8 @@ impl Cursor {
         self
     }
 
-    // The answer at the end of a reading: its refusal; 13, if the table has too few rows; or the numbers of entities and of rows.
-    // The table then has the rows, and only 0 behind them; after a refusal it is all 0.
+    // The answer at the end of a reading: its refusal; 13, if the table has too few rows; or the numbers of entities and rows.
+    // The table then has the rows, and only 0 after them; after a refusal it is all 0.
     pub fn answer(self, t: &mut [u32], entities: usize) -> Answer
         ensures { λ r. ⌜ resultOf r (now (t .exit)) ≡ answered entities (readState self (now (t .entry))) ⌝ }
     {
@@ -270,7 +271,7 @@ impl Cursor {
         Answer::Accepted { entities, rows }
     }
 
-    // The answer at the end of what is read alone, of all bytes that are given: 1 and 12 besides.
+    // The answer at the end of a value that is read alone, from all the bytes given: also 1 and 12.
     pub fn answer_alone(self, s: &[u8], t: &mut [u32], entities: usize) -> Answer
         ensures { λ r. ⌜ resultOf r (now (t .exit)) ≡ answeredAlone entities (now (s .entry)) (readState self (now (t .entry))) ⌝ }
     {

@@ -1,4 +1,4 @@
--- What is told of a sum, above the limit or not; and the sum of a list, item after item.
+-- A sum, above the limit or not; and the sum of a list, item by item.
 use Prim.Native.Nat.{ℕ, _+_, _≤_, _<_}
 use native.Mathlib.Numerals.{add-one}
 use mathlib.Core.List.{List}
@@ -20,7 +20,7 @@ pub above-limit : (n : ℕ) → limit < n → withinLimit n ≡ tooLong
 unfolding withinLimit
 above-limit n h = rw (lt-leb n limit h)
 
--- The first item of those that are left, and the others
+-- The first of the items that are left, and the others
 pub sum-next : (items : List ℕ) (i : ℕ) → i < length items → sum (drop i items) ≡ getD items i 0 + sum (drop (i + 1) items)
 sum-next items i h = rw (add-one, drop-cons items i 0)
 

@@ -1,4 +1,4 @@
--- The lengths of what a flag lets follow and of a list's items are those of their bytes.
+-- The lengths of an optional part and of a list's items are those of their bytes.
 use Prim.Native.Nat.{ℕ, zero, suc}
 use native.Mathlib.Omega.{arith}
 use mathlib.Core.List.{_∷_}
@@ -11,7 +11,7 @@ use Rattle.layout.proofs.InBytes.{bytesOf-append}
 use Rattle.length.specs.Length.{sum, optionLength, listLength}
 use Rattle.length.specs.Theorems.{inner, itemLengths, Option-length, List-length}
 
--- The items' bytes, together
+-- The bytes of the items, together
 items-sum : (L : Layout) (n : ℕ) (v : Value (times n L)) → sum (itemLengths L n v) ≡ length (bytes (times n L) v)
 items-sum L zero v = refl
 items-sum L (suc n) v = rw (bytesOf-append (leaves L (v .0)) (leaves (times n L) (v .1))) (omega (arith, items-sum L n (v .1), length-append (bytes L (v .0)) (bytes (times n L) (v .1))))

@@ -1,4 +1,4 @@
--- Written lengths: document 01, "The metadata bytes", and refusal 16.
+-- Written lengths, and refusal 16 (docs/FORMAT.md, Writing and Refusals).
 use Prim.Native.Nat.{ℕ, _+_}
 use mathlib.Core.Bool.{cond}
 use mathlib.Core.List.{List, [], _∷_}
@@ -11,7 +11,7 @@ use Rattle.length.specs.declared.OptionLen.{OptionLen}
 use Rattle.length.specs.declared.OptionLen.the-variants.{Some, None}
 use Rattle.length.specs.declared.Length as declared
 
--- The count, or the number and place, of each case
+-- The meaning of each case: the count, or the number and place
 abbrev pub lengthOf : declared.Length → Total
 lengthOf (Counted count) = counted count
 lengthOf (Refused refusal) = uncounted (refusal .number) (refusal .place)
@@ -20,29 +20,29 @@ lengthOf (Refused refusal) = uncounted (refusal .number) (refusal .place)
 abbrev pub tooLong : Total
 tooLong = uncounted 16 0
 
--- What is told of a written length
+-- A written length, or the refusal 16
 unfoldable pub withinLimit : ℕ → Total
 withinLimit n = cond (leb n limit) (counted n) tooLong
 
--- A 4-byte length, then as many bytes
+-- A 4-byte length, then that many bytes
 abbrev pub bytesLength : ℕ → ℕ
 bytesLength n = 4 + n
 
--- The length that a value of the code stands for, if any
+-- The code's `OptionLen` as an option
 abbrev pub lenOf : OptionLen → Option ℕ
 lenOf None = none
 lenOf (Some n) = some n
 
--- A flag, then the thing if it is there
+-- A flag, then the optional part if it is present
 abbrev pub optionLength : Option ℕ → ℕ
 optionLength none = 1
 optionLength (some n) = 1 + n
 
--- Lengths together
+-- The sum of lengths
 abbrev pub sum : List ℕ → ℕ
 sum [] = 0
 sum (n ∷ ns) = n + sum ns
 
--- A 4-byte count, then the items, by their lengths
+-- A 4-byte count, then the items, from their lengths
 unfoldable pub listLength : List ℕ → ℕ
 listLength items = 4 + sum items

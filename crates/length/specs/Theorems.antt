@@ -1,4 +1,4 @@
--- What is proved of the definitions, as statements, for every layout. Each comment names the proof, in proofs/.
+-- The theorems about the definitions, as statements, for every layout. Each comment names the proof, in proofs/.
 use Prim.Native.Nat.{ℕ, zero, suc}
 use mathlib.Core.List.{List, [], _∷_}
 use mathlib.Core.Option.{Option, none, some}
@@ -9,7 +9,7 @@ use Rattle.layout.specs.Forms.{times, list, onlyIf, may}
 use Rattle.layout.specs.Written.{bytes}
 use Rattle.length.specs.Length.{optionLength, listLength}
 
--- The length of what a flag lets follow, if anything does
+-- The length of the optional part, if it is present
 abbrev pub inner : (L : Layout) (flag : ℕ) → Value (onlyIf L flag) → Option ℕ
 inner L zero v = none
 inner L (suc n) v = some (length (bytes L v))

@@ -1,4 +1,4 @@
-// The lengths of what is written, before it is written. A length above the limit is refused, and no sum wraps.
+// The lengths of values, before they are written. A length above the limit is refused, and no sum wraps.
 use layout::LIMIT;
 use table::Refusal;
 ghost use mathlib.Core.Path.{_≡_};
@@ -18,13 +18,13 @@ pub enum Length {
     Refused(Refusal),
 }
 
-// A length that may be missing.
+// An optional length.
 pub enum OptionLen {
     None,
     Some(usize),
 }
 
-// The length of some bytes with their length before them.
+// The length of some bytes preceded by their length.
 pub fn bytes_len(len: usize) -> Length
     ensures { λ r. ⌜ lengthOf r ≡ withinLimit (bytesLength len) ⌝ }
 {
@@ -59,7 +59,7 @@ pub fn u32_len() -> usize
     4
 }
 
-// The length of a thing that may be missing.
+// The length of an optional part with its flag.
 pub fn opt_len(inner: OptionLen) -> Length
     ensures { λ r. ⌜ lengthOf r ≡ withinLimit (optionLength (lenOf inner)) ⌝ }
 {

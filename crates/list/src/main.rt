@@ -6,7 +6,7 @@ ghost use Prim.Native.Nat.{_+_};
 ghost use lib.ListN.{length};
 ghost use Rattle.listing.specs.Listing.{mostBytes, mostListed};
 
-// One byte more than is listed, to know a longer input by.
+// One byte more than is listed, so that a longer input is noticed.
 const INPUT_SPACE: usize = listing::MOST_BYTES + 1;
 
 fn main() {

@@ -1,4 +1,4 @@
--- Lines: how long they are, and how they are put word after word and row after row.
+-- Lines: how long they are, and how they are put, word by word and row by row.
 use Prim.Native.Nat.{ℕ, suc, _+_, _-_, _^_, _/_, _≤_, _<_}
 use native.Mathlib.Numerals.{add-one}
 use native.Mathlib.Omega.{arith}
@@ -21,7 +21,7 @@ use Rattle.listing.specs.Listing.{mostBytes, lentTable, further, line, r
 use Rattle.listing.specs.Private.{Place, place, putByte, putAll}
 use Rattle.listing.proofs.Places.{put-append, put-start}
 
--- A line of numbers is put number after number: another one behind a blank
+-- A line of numbers is put number by number: the next one after a space
 pub number-put : (l : List ℕ) (k n : ℕ) (p q x : Place) → k < length l → n ≡ getD l k 0 → q ≡ putAll (0x20 ∷ decimal n) p
     → putAll (further (map decimal (drop k l))) p ≡ x → putAll (further (map decimal (drop (k + 1) l))) q ≡ x
 unfolding further
@@ -31,7 +31,7 @@ number-put l k n p q x h w e i =
     rw f (put-append (0x20 ∷ decimal (getD l k 0)) (further (map decimal (drop (suc k) l))) p) in
     rw (e, w, add-one k) (sym a ∙ i)
 
--- The line's end behind the last one, and the first one before them
+-- The line's end after the last one, and the first one before them
 pub line-put : (l : List ℕ) (k n : ℕ) (p q r t : Place) → 1 ≤ length l → length l ≤ k → n ≡ getD l 0 0 → q ≡ putAll (decimal n) p
     → putAll (further (map decimal (drop k l))) r ≡ putAll (further (map decimal (drop 1 l))) q → t ≡ putByte 0x0A r → t ≡ putAll (line (map decimal l)) p
 unfolding further line putAll
@@ -41,7 +41,7 @@ line-put (m ∷ l) k n p q r t o h w e i j =
     let a : putAll (further (map decimal (drop k (m ∷ l)))) r ≡ putByte 0x0A r = rw f in
     j ∙ sym a ∙ i ∙ ap (putAll (further (map decimal l))) (e ∙ ap (λ (x : ℕ). putAll (decimal x) p) w) ∙ sym (put-append (decimal m) (further (map decimal l)) p)
 
--- The lines of rows are put row after row
+-- The lines of rows are put row by row
 pub row-put : (table : List ℕ) (rows k start width : ℕ) (p q x : Place) → k < rows → width ≡ rowWidth
     → q ≡ putAll (line (map decimal (take width (drop start table)))) p
     → putAll (rowLines (rows - k) (drop start table)) p ≡ x → putAll (rowLines (rows - (k + 1)) (drop (start + rowWidth) table)) q ≡ x
@@ -86,7 +86,7 @@ unfolding lines
 accept-put entities rows table p q t e f =
     f ∙ rw e (sym (put-append (line (ascii "accept" ∷ decimal entities ∷ decimal rows ∷ [])) (rowLines rows table) p))
 
--- An accepted answer's rows are in the table
+-- The rows of an accepted answer are in the table
 pub counted : (answer : declared.Answer) (entities rows n : ℕ) → answer ≡ Accepted entities rows → answerOf answer .rows ≤ n → rows ≤ n
 counted answer entities rows n e h = omega (arith, ap (λ (a : declared.Answer). answerOf a .rows) e)
 
@@ -107,7 +107,7 @@ pub word-put : (w : List ℕ) (p q t : Place) → q ≡ putAll w p → t ≡ put
 unfolding line further putAll
 word-put w p q t e f = f ∙ rw e (sym (put-append w (0x0A ∷ []) p))
 
--- The two ways of a listing
+-- The two cases of a listing
 pub long-listing : (s : List ℕ) → mostBytes < length s → listing s ≡ line (ascii "long" ∷ [])
 unfolding listing
 long-listing s h = rw (lt-leb (length s) mostBytes h)

@@ -1,4 +1,4 @@
--- Bytes that are put at a place: one after the other, and all of them from the start on.
+-- Bytes put at a place: one after the other, and all of them from the start on.
 use Prim.Native.Nat.{ℕ, _+_, _≤_, _<_}
 use native.Mathlib.Numerals.{add-one}
 use native.Mathlib.Omega.{arith}
@@ -19,23 +19,23 @@ unfolding putAll
 put-at [] p = omega arith
 put-at (x ∷ l) p = omega (arith, put-at l (putByte x p))
 
--- The place behind what was put
-pub place-behind : (l : List ℕ) (p q : Place) → q ≡ putAll l p → q .at ≡ p .at + length l
-place-behind l p q e = ap (λ (x : Place). x .at) e ∙ put-at l p
+-- The place after what was put
+pub place-after : (l : List ℕ) (p q : Place) → q ≡ putAll l p → q .at ≡ p .at + length l
+place-after l p q e = ap (λ (x : Place). x .at) e ∙ put-at l p
 
 pub put-length : (l : List ℕ) (p : Place) → length (putAll l p .out) ≡ length (p .out)
 unfolding putAll
 put-length [] p = refl
 put-length (x ∷ l) p = put-length l (putByte x p) ∙ length-set (p .out) (p .at) x
 
--- Where two puttings come to the same
+-- Two ways of putting bytes with the same result
 pub put-same-length : (a b : List ℕ) (p q : Place) → putAll a p ≡ putAll b q → length (p .out) ≡ length (q .out)
 put-same-length a b p q e = sym (put-length a p) ∙ ap (λ (x : Place). length (x .out)) e ∙ put-length b q
 
 pub put-same-at : (a b : List ℕ) (p q : Place) → putAll a p ≡ putAll b q → p .at + length a ≡ q .at + length b
 put-same-at a b p q e = sym (put-at a p) ∙ ap (λ (x : Place). x .at) e ∙ put-at b q
 
--- The bytes of s, of which k are put
+-- The bytes of s, of which k have been put
 pub put-more : (s : List ℕ) (k : ℕ) (p : Place) → k < length s → putAll (drop (k + 1) s) (putByte (getD s k 0) p) ≡ putAll (drop k s) p
 unfolding putAll
 put-more s k p h = rw (add-one k, drop-cons s k 0 h)
@@ -44,17 +44,17 @@ pub put-none : (s : List ℕ) (k : ℕ) (p : Place) → length s ≤ k → putAl
 unfolding putAll
 put-none s k p h = rw (drop-of-length-le s {i = k} h)
 
--- Behind the end nothing is stored
-put-behind : (l out : List ℕ) (at : ℕ) → length out ≤ at → putAll l (place out at) .out ≡ out
+-- Past the end nothing is stored
+put-past : (l out : List ℕ) (at : ℕ) → length out ≤ at → putAll l (place out at) .out ≡ out
 unfolding putAll
-put-behind [] out at h = refl
-put-behind (x ∷ l) out at h = ap (λ (o : List ℕ). putAll l (place o (at + 1)) .out) (set-out out at x h) ∙ put-behind l out (at + 1) (omega arith)
+put-past [] out at h = refl
+put-past (x ∷ l) out at h = ap (λ (o : List ℕ). putAll l (place o (at + 1)) .out) (set-out out at x h) ∙ put-past l out (at + 1) (omega arith)
 
 put-between : (l before after : List ℕ) (at : ℕ) → at ≡ length before
     → putAll l (place (before ++ after) at) .out ≡ before ++ (take (length after) l ++ drop (length l) after)
 unfolding putAll
 put-between [] before after at e = ap (λ (o : List ℕ). before ++ (o ++ after)) (sym (take-nil (length after)))
-put-between (x ∷ l) before [] at e = put-behind (x ∷ l) (before ++ []) at (omega (arith, length-append before []))
+put-between (x ∷ l) before [] at e = put-past (x ∷ l) (before ++ []) at (omega (arith, length-append before []))
 put-between (x ∷ l) before (y ∷ after) at e =
     let s : set (before ++ y ∷ after) at x ≡ (before ++ (x ∷ [])) ++ after = rw (e, set-append-seam before y after x) (sym (append-assoc before (x ∷ []) after)) in
     ap (λ (o : List ℕ). putAll l (place o (at + 1)) .out) s
@@ -64,4 +64,4 @@ put-between (x ∷ l) before (y ∷ after) at e =
 -- All of them from the start on
 pub put-start : (l out after : List ℕ) (r : ℕ) → place after r ≡ putAll l (place out 0) → (r ≡ length l) × (after ≡ atStart l out)
 put-start l out after r e =
-    (omega (arith, place-behind l (place out 0) (place after r) e), ap (λ (p : Place). p .out) e ∙ put-between l [] out 0 refl)
+    (omega (arith, place-after l (place out 0) (place after r) e), ap (λ (p : Place). p .out) e ∙ put-between l [] out 0 refl)

@@ -1,4 +1,4 @@
--- The listing of a section, as bytes: document 01, "The listing program and its cases".
+-- The listing of a section, as bytes (docs/FORMAT.md, The listing).
 use Prim.Native.Nat.{ℕ, zero, suc, _+_, _*_}
 use mathlib.Core.Bool.{cond}
 use mathlib.Core.List.{List, [], _∷_, _++_, map}
@@ -14,7 +14,7 @@ use Rattle.decimal.specs.Decimal.{decimal}
 abbrev pub mostBytes : ℕ
 mostBytes = 65536
 
--- The rows that are lent for its reading
+-- The number of rows that are lent for its reading
 abbrev pub lentRows : ℕ
 lentRows = 5461
 
@@ -22,7 +22,7 @@ lentRows = 5461
 unfoldable pub lentTable : List ℕ
 lentTable = replicate (rowWidth * lentRows) 0
 
--- The words of a line behind the first one, each behind one blank; then the line's end
+-- The words of a line after the first one, each after one space; then the line's end
 unfoldable pub further : List (List ℕ) → List ℕ
 further [] = ascii "\n"
 further (w ∷ ws) = ascii " " ++ w ++ further ws
@@ -52,10 +52,11 @@ resultLines r = lines (r .answer) (r .table)
 unfoldable pub listing : List ℕ → List ℕ
 listing s = cond (leb (length s) mostBytes) (resultLines (reading s lentTable)) (line (ascii "long" ∷ []))
 
--- No listing is longer: a line for the counts of 20 digits at most, and a line for each row with numbers of 10 digits at most
+-- No listing is longer: one line for the counts, of at most 20 digits each, and one for each row, with numbers of at most 10
+-- digits
 abbrev pub mostListed : ℕ
 mostListed = 49 + 11 * rowWidth * lentRows
 
--- What stands in `out` once bytes are put to its start: as many of them as fit, then what stood there before
+-- The contents of `out` once bytes are put at its start: as many of them as fit, then what was there before
 abbrev pub atStart : List ℕ → (out : List ℕ) → List ℕ
 atStart bytes out = take (length out) bytes ++ drop (length bytes) out

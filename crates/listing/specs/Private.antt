@@ -1,9 +1,9 @@
--- What only the private functions of the crate promise one another. No public contract cites anything here.
+-- Definitions for the contracts of private functions; no public contract cites them.
 use Prim.Native.Nat.{ℕ, _+_}
 use mathlib.Core.List.{List, [], _∷_}
 use lib.ListN.{set}
 
--- What is written to, and the place behind what was put there last
+-- The output, and the place after what was put there last
 pub record Place : Type 0 where
   pub out : List ℕ
   pub at : ℕ
@@ -12,7 +12,7 @@ pub record Place : Type 0 where
 abbrev pub place : List ℕ → ℕ → Place
 place out at = record { out = out; at = at }
 
--- A byte is put: it is stored if there is room, and the place counts on in any case
+-- A byte is put: it is stored if there is room, and the place advances in any case
 abbrev pub putByte : ℕ → Place → Place
 putByte b p = place (set (p .out) (p .at) b) (p .at + 1)
 

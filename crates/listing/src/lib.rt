@@ -15,7 +15,7 @@ ghost use Rattle.listing.specs.Private.{place, putByte, putAll};
 // The most bytes of a section that is listed.
 pub const MOST_BYTES: usize = 65536;
 
-// The rows that are lent for its reading.
+// The number of rows that are lent for its reading.
 const LENT_ROWS: usize = 5461;
 
 const LENT_NUMBERS: usize = ROW_WIDTH * LENT_ROWS;
@@ -23,7 +23,7 @@ const LENT_NUMBERS: usize = ROW_WIDTH * LENT_ROWS;
 // No listing is longer.
 pub const MOST_LISTED: usize = 49 + 11 * LENT_NUMBERS;
 
-// Puts the listing of the bytes of input to the start of out, as far as it fits, and answers its length.
+// Puts the listing of the bytes of input at the start of out, as far as it fits, and answers its length.
 pub fn listing(input: &[u8], out: &mut [u8]) -> usize
     ensures { λ r. ⌜ r ≡ length (listing (now (input .entry))) ⌝ }
     ensures { λ r. ⌜ now (out .exit) ≡ atStart (listing (now (input .entry))) (now (out .entry)) ⌝ }
@@ -45,9 +45,9 @@ fn lent_table() -> [u32; LENT_NUMBERS]
     [0u32; LENT_NUMBERS]
 }
 
-// This and each other function named put puts bytes into out as far as there is room, from the start or from the place at on,
-// and answers the place behind them, which may lie behind out's end. Here: the lines of an answer with its table, which has the
-// rows that are counted.
+// This and the other functions whose names begin with put write bytes to out as far as there is room, from the start or from
+// `at` on, and answer the place after them, which may be past the end of out. Here: the lines of an answer with its table, which
+// has the rows that are counted.
 fn put_answer(out: &mut [u8], answer: Answer, table: &[u32]) -> usize
     requires { ⌜ (length (now table) ≤ rowWidth * lentRows) × (answerOf answer .rows ≤ wholeRows (now table)) ⌝ }
     ensures { λ r. ⌜ (place (now (out .exit)) r ≡ putAll (lines (answerOf answer) (now (table .entry))) (place (now (out .entry)) 0)) × (r ≤ mostListed) ⌝ }
@@ -114,7 +114,7 @@ fn wide(x: u32) -> u64
     x as u64
 }
 
-// A blank and the digits of n.
+// A space and the digits of n.
 fn put_word(out: &mut [u8], at: usize, n: u64) -> usize
     requires { ⌜ at + 21 < 2 ^ 64 ⌝ }
     ensures { λ r. ⌜ place (now (out .exit)) r ≡ putAll (0x20 ∷ decimal n) (place (now (out .entry)) at) ⌝ }

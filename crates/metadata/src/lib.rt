@@ -10,10 +10,10 @@ ghost use Rattle.layout.specs.ReadAlone.{readingAlone};
 ghost use Rattle.leaf.specs.State.{readState};
 ghost use Rattle.leaf.specs.Run.{run};
 ghost use Rattle.table.specs.Answers.{resultOf};
-ghost use Rattle.metadata.specs.Private.{BehindTag};
+ghost use Rattle.metadata.specs.Private.{AfterTag};
 
-// As, which most mappings are, is told apart first. Here and in read_argument_sql s is lent anew, so that the compiler passes its
-// place and length in registers.
+// As, the most frequent mapping, is tested first. Here and in read_argument_sql s is borrowed again, so that the compiler
+// passes its address and length in registers.
 pub fn read_sql_mapping(c: Cursor, s: &[u8], t: &mut [u32]) -> Cursor
     ensures { λ r. ⌜ readState r (now (t .exit)) ≡ run SqlMapping (now (s .entry)) (readState c (now (t .entry))) ⌝ }
 {
@@ -26,10 +26,10 @@ pub fn read_sql_mapping(c: Cursor, s: &[u8], t: &mut [u32]) -> Cursor
     read_other_sql_mapping(c, s, t, at)
 }
 
-// The mappings other than As, behind their tag, which stands at `at`.
+// The mappings other than As, after their tag, which is at `at`.
 fn read_other_sql_mapping(c: Cursor, s: &[u8], t: &mut [u32], at: usize) -> Cursor
     requires { ⌜ c .value ≢ 1 ⌝ }
-    ensures { λ r. ⌜ BehindTag SqlMapping (now (s .entry)) at (readState c (now (t .entry))) (readState r (now (t .exit))) ⌝ }
+    ensures { λ r. ⌜ AfterTag SqlMapping (now (s .entry)) at (readState c (now (t .entry))) (readState r (now (t .exit))) ⌝ }
 {
     let tag = c.value;
     match tag {
@@ -55,7 +55,7 @@ pub fn read_sql_array_mapping(c: Cursor, s: &[u8], t: &mut [u32]) -> Cursor
     }
 }
 
-// A Numeric mapping: each number is read also where its flag is 0.
+// A Numeric mapping: each number is read even if its flag is 0.
 pub fn read_numeric(c: Cursor, s: &[u8], t: &mut [u32]) -> Cursor
     ensures { λ r. ⌜ readState r (now (t .exit)) ≡ run Numeric (now (s .entry)) (readState c (now (t .entry))) ⌝ }
 {

@@ -11,7 +11,7 @@ use Rattle.paste.proofs.Pasted.{pasted-fits}
 use Rattle.numeric.specs.declared.NumericSql.{NumericSql}
 use Rattle.numeric.specs.Numeric.{numericSize, numericSql}
 
--- The bytes hold a text of n bytes, then only 0
+-- The bytes have a text of n bytes, then only 0
 pub record Held (text bytes : List ℕ) (n : ℕ) : Type 0 where
   pub holds : bytes ≡ text ++ replicate (numericSize - length text) 0
   pub size : n ≡ length text
@@ -21,7 +21,7 @@ drop-zeros zero n = rw sub-zero
 drop-zeros (suc k) zero = let e : 0 - suc k ≡ 0 = omega arith in rw e
 drop-zeros (suc k) (suc n) = let e : suc n - suc k ≡ n - k = omega arith in rw e (drop-zeros k n)
 
--- A text stored behind it
+-- A text stored after it
 pub held : {text bytes bytes₁ : List ℕ} {n n₁ : ℕ} (x : List ℕ) → Held text bytes n → n₁ ≤ numericSize → (n₁ ≡ n + length x) × (bytes₁ ≡ pasted bytes n x)
     → Held (text ++ x) bytes₁ n₁
 held {text} {bytes} {bytes₁} {n} {n₁} x h k e =
@@ -42,7 +42,7 @@ pub record-held : {text bytes : List ℕ} {n : ℕ} → Held text bytes n → _�
 unfolding numericSql
 record-held h = rw (h .holds, h .size)
 
--- A record's text, and its place in a buffer
+-- The text of a record, and its place in a buffer
 module _ (text : List ℕ) (x : NumericSql) (e : x ≡ numericSql text) where
   pub text-taken : take (x .len) (x .bytes) ≡ text
   unfolding numericSql
@@ -56,6 +56,6 @@ module _ (text : List ℕ) (x : NumericSql) (e : x ≡ numericSql text) where
   unfolding numericSql
   text-fits = rw e (simp length-append (omega arith))
 
-  -- Stored at the start of a buffer of the size
+  -- Stored at the start of a buffer of that size
   pub text-pasted : (out : List ℕ) → length out ≡ numericSize → x .len ≤ numericSize → pasted out 0 (take (x .len) (x .bytes)) ≡ text ++ drop (length text) out
   text-pasted out l k = rw text-taken (pasted-fits out 0 text (omega (arith, text-length)) ∙ rw zero-add)

@@ -15,7 +15,7 @@ numericText none scale = ascii "NUMERIC"
 numericText (some p) none = ascii "NUMERIC(" ++ decimal p ++ ascii ")"
 numericText (some p) (some q) = ascii "NUMERIC(" ++ decimal p ++ ascii ", " ++ decimal q ++ ascii ")"
 
--- The bytes of the record and of the lent buffer, which no Numeric text exceeds
+-- The size of the record and of the lent buffer; no Numeric text is longer
 abbrev pub numericSize : ℕ
 numericSize = 31
 
@@ -23,7 +23,7 @@ numericSize = 31
 unfoldable pub numericSql : List ℕ → NumericSql
 numericSql text = record { bytes = text ++ replicate (numericSize - length text) 0; len = length text }
 
--- The number that a value of the code stands for, if any
+-- The code's `OptionU32` as an option
 abbrev pub optionOf : OptionU32 → Option ℕ
 optionOf None = none
 optionOf (Some n) = some n

@@ -9,13 +9,13 @@ ghost use Rattle.numeric.specs.Numeric.{numericText, numericSize, numeri
 // The most bytes of a Numeric text.
 pub const NUMERIC_SQL_SIZE: usize = 31;
 
-// A number that may be missing.
+// An optional number.
 pub enum OptionU32 {
     None,
     Some(u32),
 }
 
-// A Numeric text: its bytes, then only 0; and how many bytes it has.
+// A Numeric text: its bytes, then only 0; and its length.
 pub struct NumericSql {
     pub bytes: [u8; NUMERIC_SQL_SIZE],
     pub len: usize,
@@ -43,7 +43,7 @@ pub fn numeric_sql_string(precision: OptionU32, scale: OptionU32) -> NumericSql
     NumericSql { bytes, len }
 }
 
-// Stores the digits of n from a place on, and answers the place behind them.
+// Stores the digits of n from a place on, and answers the place after them.
 fn put_decimal(out: &mut [u8], at: usize, n: u32) -> usize
     requires { ⌜ at + 10 ≤ length (now out) ⌝ }
     ensures { λ r. ⌜ (r ≡ at + length (decimal n)) × (now (out .exit) ≡ pasted (now (out .entry)) at (decimal n)) × (r ≤ at + 10) ⌝ }
@@ -54,7 +54,7 @@ fn put_decimal(out: &mut [u8], at: usize, n: u32) -> usize
     put(out, at, &bytes[..len])
 }
 
-// Stores a text from a place on, and answers the place behind it.
+// Stores a text from a place on, and answers the place after it.
 fn put(out: &mut [u8], at: usize, text: &[u8]) -> usize
     requires { ⌜ at + length (now text) ≤ length (now out) ⌝ }
     ensures { λ r. ⌜ (r ≡ at + length (now (text .entry))) × (now (out .exit) ≡ pasted (now (out .entry)) at (now (text .entry))) ⌝ }

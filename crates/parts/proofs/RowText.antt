@@ -67,7 +67,7 @@ row-lies s row start end e =
     let b : end ≡ row .offset + row .value = cc in
     (omega arith, omega arith)
 
--- So does what was found of it
+-- So does its part
 pub row-lies-in : (s : List ℕ) (row : Row) (p : TextPlace) → foundPart p ≡ rowText s row → LiesIn (length s) p
 row-lies-in s row (Section start len) e = row-lies s row start (start + len) (sym e) .1
 row-lies-in s row (Refused refusal) e = tt

@@ -93,7 +93,7 @@ pub name-cases : Name-cases
 unfolding sqlName
 name-cases = (refl, refl, refl)
 
--- The SQL name of a text that stands from a start on begins so many bytes behind it
+-- The SQL name of a text at `start` begins `before` bytes after its start
 pub name-placed : (s : List ℕ) (start len before : ℕ) (o : Outcome ℕ ℕ) → o ≡ ok start (start + len) → start + len ≤ length s
     → before ≤ length (between s start (start + len)) → drop before (between s start (start + len)) ≡ sqlName (between s start (start + len))
     → ok (start + before) (start + before + (len - before)) ≡ sqlNameIn s o
@@ -110,7 +110,7 @@ pub name-refusal : (s : List ℕ) (o : Outcome ℕ ℕ) → (numberIn (sqlNameIn
 name-refusal s (ok start end) = (refl, refl)
 name-refusal s (refuse n p) = (refl, refl)
 
--- What was found of it lies in the bytes
+-- Its part lies in the bytes
 pub name-lies-in : (s : List ℕ) (row : Row) (p : TextPlace) → foundPart p ≡ sqlNameIn s (rowText s row) → LiesIn (length s) p
 name-lies-in s row (Section start len) e = go (rowText s row) refl e
   where

@@ -1,4 +1,4 @@
--- Texts as parts of the bytes given: document 01, "The reading: entities and rows", and the SQL name of a declaration.
+-- Texts as parts of the bytes given, and the SQL name of a declaration (docs/FORMAT.md, Texts, SQL names and SQL texts).
 use Prim.Native.Nat.{ℕ, _+_, _-_}
 use mathlib.Core.Bool.{Bool, cond, _&&_}
 use mathlib.Core.List.{List, [], _∷_}
@@ -15,7 +15,7 @@ use Rattle.parts.specs.declared.TextPlace.the-variants.{Section, Refused
 abbrev pub between : List ℕ → (start end : ℕ) → List ℕ
 between s start end = take (end - start) (drop start s)
 
--- A row that is a text of the bytes given: its sort is a text's, it does not leave them, and they are RFC 3629 there
+-- A row that is a text of the bytes given: it has the sort of a text, it is within the bytes, and they are valid UTF-8 there
 abbrev pub isText : List ℕ → Row → Bool
 isText s row = eqb (row .sort) textSort && (enough s (row .offset) (row .value) && utf8 (take (row .value) (drop (row .offset) s)))
 
@@ -23,7 +23,7 @@ isText s row = eqb (row .sort) textSort && (enough s (row .offset) (row .value) 
 unfoldable pub rowText : List ℕ → Row → Outcome ℕ ℕ
 rowText s row = need (leb (length s) limit) 1 0 (need (isText s row) 15 0 (ok (row .offset) (row .offset + row .value)))
 
--- The part that an outcome gives: under a refusal it is empty
+-- The part that an outcome gives: empty after a refusal
 abbrev pub partOf : List ℕ → Outcome ℕ ℕ → List ℕ
 partOf s (ok start end) = between s start end
 partOf s (refuse n p) = []
@@ -43,23 +43,23 @@ module _ {A : Type 0} where
 abbrev pub colon : ℕ
 colon = 58
 
--- What stands after the last `::`, with matches taken from the left without overlap: behind a match it starts anew.
--- `last` is what stood after the last match so far
+-- What comes after the last `::`, with matches found from the left without overlap: the search starts again after a match.
+-- `last` is what came after the last match so far
 abbrev pub afterLast : (last : List ℕ) → List ℕ → List ℕ
 afterLast last [] = last
 afterLast last (x ∷ []) = last
 afterLast last (x ∷ y ∷ rest) = cond (eqb x colon && eqb y colon) (afterLast rest rest) (afterLast last (y ∷ rest))
 
--- The SQL name of a declaration, from its name: without `::` the whole name
+-- The SQL name of a declaration, from its name: the whole name, if it has no `::`
 unfoldable pub sqlName : List ℕ → List ℕ
 sqlName name = afterLast name name
 
--- The SQL name of a name that is a part of the bytes given, by its start and its end: it ends where the name does
+-- The SQL name of a name that is a part of the bytes given, by its start and end: it ends where the name does
 abbrev pub sqlNameIn : List ℕ → Outcome ℕ ℕ → Outcome ℕ ℕ
 sqlNameIn s (ok start end) = ok (end - length (sqlName (between s start end))) end
 sqlNameIn s (refuse n p) = refuse n p
 
--- What each case of the code's answer is: a start and an end; or a refusal's number and place
+-- The meaning of each case of the code's answer: a start and an end; or a refusal's number and place
 abbrev pub foundPart : TextPlace → Outcome ℕ ℕ
 foundPart (Section start len) = ok start (start + len)
 foundPart (Refused refusal) = refuse (refusal .number) (refusal .place)

@@ -1,4 +1,4 @@
--- What is proved of the definitions, as statements. Each comment names the proof, in proofs/.
+-- The theorems about the definitions, as statements. Each comment names the proof, in proofs/.
 use Prim.Native.Nat.{ℕ, _≤_}
 use mathlib.Core.List.{List, [], _∷_}
 use mathlib.Core.Path.{_≡_}
@@ -29,7 +29,7 @@ Name-end = (name : List ℕ) → (start : ℕ) × (start ≤ length name) × (sq
 abbrev pub Name-part : Type 0
 Name-part = (s : List ℕ) (row : Row) → partOf s (sqlNameIn s (rowText s row)) ≡ sqlName (partOf s (rowText s row))
 
--- Document 01's names: `name-cases` in SqlName.antt
+-- Three examples: `name-cases` in SqlName.antt
 abbrev pub Name-cases : Type 0
 Name-cases =
     (sqlName (ascii "a:::b") ≡ ascii ":b") × (sqlName (ascii "a::") ≡ []) × (sqlName (ascii "ab") ≡ ascii "ab")

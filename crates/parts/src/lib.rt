@@ -9,13 +9,13 @@ ghost use Rattle.layout.specs.Reading.{refuse};
 ghost use Rattle.parts.specs.Parts.{rowText, partOf, numberIn, placeIn, sqlName, sqlNameIn, foundPart};
 ghost use Rattle.parts.specs.Private.{LiesIn, colonsAt};
 
-// Where a text stands in the section: from a start on; or nowhere, with a refusal.
+// Where a text is in the section: from a start on; or nowhere, with a refusal.
 pub enum TextPlace {
     Section { start: usize, len: usize },
     Refused(Refusal),
 }
 
-// Where the text of a row stands.
+// Where the text of a row is.
 pub fn place_row_text(section: &[u8], row: Row) -> TextPlace
     ensures { λ r. ⌜ foundPart r ≡ rowText (now (section .entry)) row ⌝ }
 {
@@ -40,7 +40,7 @@ pub fn place_row_text(section: &[u8], row: Row) -> TextPlace
     no_place(15)
 }
 
-// A refusal, at no place.
+// A refusal, with place 0.
 fn no_place(number: u32) -> TextPlace
     ensures { λ r. ⌜ foundPart r ≡ refuse number 0 ⌝ }
 {
@@ -57,7 +57,7 @@ pub fn row_text<'a>(section: &'a [u8], row: Row, number: &mut u32, place: &mut u
     part_at(section, found, number, place)
 }
 
-// Where the SQL name of a declaration stands, from the row of the declaration's name.
+// Where the SQL name of a declaration is, from the row of the declaration's name.
 pub fn place_sql_name(section: &[u8], row: Row) -> TextPlace
     ensures { λ r. ⌜ foundPart r ≡ sqlNameIn (now (section .entry)) (rowText (now (section .entry)) row) ⌝ }
 {
@@ -83,7 +83,7 @@ pub fn sql_name<'a>(section: &'a [u8], row: Row, number: &mut u32, place: &mut u
     part_at(section, found, number, place)
 }
 
-// The text at a place, which lies in the section; or an empty part, with the refusal's number and place.
+// The text at a place, which is within the section; or an empty part, with the refusal's number and place.
 fn part_at<'a>(section: &'a [u8], found: TextPlace, number: &mut u32, place: &mut usize) -> &'a [u8]
     requires { ⌜ LiesIn (length (now section)) found ⌝ }
     ensures { λ r. ⌜ now r ≡ partOf (now (section .entry)) (foundPart found) ⌝ }

@@ -1,4 +1,4 @@
--- The bytes of a text stored part by part.
+-- The bytes of a text, stored part by part.
 use Prim.Native.Nat.{ℕ, zero, suc, _+_, _-_, _≤_, _<_}
 use native.Mathlib.Omega.{arith}
 use mathlib.Core.List.{List, [], _∷_, _++_}
@@ -9,13 +9,13 @@ use Rattle.paste.specs.Pasted.{pasted}
 use Rattle.paste.specs.Private.{copied}
 use Rattle.paste.proofs.Pasted.{pasted-none, pasted-length, pasted-append, pasted-over, set-pasted, stored, stored-pasted}
 
--- Two neighbouring parts make one
+-- Two adjacent parts make one
 slice-join : (l : List ℕ) (a i e : ℕ) → a ≤ i → i ≤ e → e ≤ length l → slice a i l ++ slice i e l ≡ slice a e l
 slice-join l a i e h k m =
     sym (drop-append-le a (take i l) (slice i e l) (omega (arith, length-take-le i l (omega arith))))
     ∙ ap (drop a) (rw (← take-take i e l k) (take-append-drop i (take e l)))
 
--- The n bytes that are read one after the other, the first of them k behind a place
+-- n bytes read one after the other, the first of them k after a place
 abbrev pub reads : List ℕ → ℕ → ℕ → ℕ → List ℕ
 reads l i k zero = []
 reads l i k (suc n) = getD l (i + k) 0 ∷ reads l i (suc k) n
@@ -24,7 +24,7 @@ reads-slice : (l : List ℕ) (i k n e : ℕ) → i + k + n ≡ e → e ≤ lengt
 reads-slice l i k zero e p h = let q : e ≡ i + k = omega arith in rw (q, slice-empty)
 reads-slice l i k (suc n) e p h = let q : i + suc k ≡ suc (i + k) = omega arith in rw (slice-cons (i + k) e l 0 (omega arith) h, ← q, reads-slice l i (suc k) n e (omega arith) h)
 
--- The same with the first of them at the place itself
+-- The same, with the first of them at the place itself
 pub read-slice : (l : List ℕ) (i n : ℕ) → i + suc n ≤ length l → getD l i 0 ∷ reads l i 1 n ≡ slice i (i + suc n) l
 read-slice l i n h =
     let p : i + 1 ≡ suc i = omega arith in
@@ -61,7 +61,7 @@ module _ (out : List ℕ) (at : ℕ) (bytes : List ℕ) (fits : at + length byte
   unfolding copied
   byte-copied i h = set-pasted out (at + i) _ (omega arith) ∙ ap (pasted out (at + i)) (read-slice bytes i 0 (omega arith))
 
-  -- The bytes up to i are stored, and then those up to e
+  -- The bytes up to i are stored, then those up to e
   pub copied-on : {o o₁ : List ℕ} (a i e : ℕ) → a ≤ i → i ≤ e → e ≤ length bytes → o ≡ copied out at bytes a i → o₁ ≡ copied o at bytes i e → o₁ ≡ copied out at bytes a e
   unfolding copied
   copied-on a i e h k m p q =
@@ -70,7 +70,7 @@ module _ (out : List ℕ) (at : ℕ) (bytes : List ℕ) (fits : at + length byte
       q ∙ rw (p, g) (pasted-append out (at + a) (slice a i bytes) (slice i e bytes) (omega (arith, length-slice i e bytes m)))
       ∙ ap (pasted out (at + a)) (slice-join bytes a i e h k m)
 
-  -- The bytes from a up to m are stored, and then those from a up to e, which are no fewer
+  -- The bytes from a up to m are stored, then those from a up to e, which are at least as many
   copied-over : {o o₁ : List ℕ} (a m e : ℕ) → a ≤ m → m ≤ e → e ≤ length bytes → o ≡ copied out at bytes a m → o₁ ≡ copied o at bytes a e → o₁ ≡ copied out at bytes a e
   unfolding copied
   copied-over a m e h k l p q =
@@ -78,7 +78,7 @@ module _ (out : List ℕ) (at : ℕ) (bytes : List ℕ) (fits : at + length byte
       let g : length (slice a e bytes) ≡ e - a = length-slice a e bytes l in
       q ∙ rw p (pasted-over out (at + a) (slice a m bytes) (slice a e bytes) (omega arith) (omega arith))
 
--- The first m bytes are stored, and then those from a on, some of them again
+-- The first m bytes are stored, then those from a on, some of them again
 pub copied-ends : (out : List ℕ) (at : ℕ) (bytes : List ℕ) → at + length bytes ≤ length out → {o o₁ : List ℕ} (m a e : ℕ) → a ≤ m → m ≤ e → e ≡ length bytes
     → o ≡ copied out at bytes 0 m → o₁ ≡ copied o at bytes a e → o₁ ≡ pasted out at bytes
 copied-ends out at bytes f m a e h k l p q =

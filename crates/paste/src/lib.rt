@@ -6,7 +6,7 @@ ghost use lib.Seq.{slice};
 ghost use Rattle.paste.specs.Pasted.{pasted};
 ghost use Rattle.paste.specs.Private.{copied};
 
-// Stores bytes in out from a place on, if they fit there; else out stays as it is.
+// Stores bytes in out from a place on, if they fit there; else out is unchanged.
 pub fn paste(out: &mut [u8], at: usize, bytes: &[u8])
     ensures { λ r. ⌜ now (out .exit) ≡ pasted (now (out .entry)) at (now (bytes .entry)) ⌝ }
 {
@@ -19,7 +19,8 @@ pub fn paste(out: &mut [u8], at: usize, bytes: &[u8])
     copy_all(out, at, bytes)
 }
 
-// Stores all the bytes. Of 4 to 63 bytes it copies two parts of a fixed size, which may overlap, so that their number decides no loop.
+// Stores all the bytes. 4 to 63 bytes are copied as two parts of a fixed size, which may overlap, so that no loop depends on
+// their number.
 fn copy_all(out: &mut [u8], at: usize, bytes: &[u8])
     requires { ⌜ at + length (now bytes) ≤ length (now out) ⌝ }
     ensures { λ r. ⌜ now (out .exit) ≡ pasted (now (out .entry)) at (now (bytes .entry)) ⌝ }
@@ -78,7 +79,8 @@ fn copy_blocks(out: &mut [u8], at: usize, bytes: &[u8], a: usize, e: usize)
     }
 }
 
-// Stores the eight bytes from i on. All are read before the first is stored, so that the compiler can make one read and one store of them.
+// Stores the eight bytes from i on. All are read before the first is stored, so that the compiler can make one load and one
+// store of them.
 fn copy_eight(out: &mut [u8], at: usize, bytes: &[u8], i: usize)
     requires { ⌜ (at + length (now bytes) ≤ length (now out)) × (i + 8 ≤ length (now bytes)) ⌝ }
     ensures { λ r. ⌜ now (out .exit) ≡ copied (now (out .entry)) at (now (bytes .entry)) i (i + 8) ⌝ }

@@ -5,7 +5,7 @@ use native.Mathlib.Omega.{arith}
 use mathlib.Core.List.{List, [], _∷_, _++_, append-assoc, map}
 use mathlib.Core.Logic.{_≢_}
 use mathlib.Core.Path.{_≡_, refl, sym, ap, _∙_}
-use lib.ListN.{length, getD, drop, length-append, length-drop}
+use lib.ListN.{length, getD, drop, length-drop}
 use lib.Seq.{take-append-seam, getD-drop}
 use borrow.Author.Tests.{leb-true, ne-eqb}
 use Rattle.layout.specs.Layout.{Kind, Number, Leaf, plain, string, fine, wrong, unknown-kind, Value, leaves, Fits, Meets, Proper}
@@ -13,19 +13,20 @@ use Rattle.layout.specs.Written.{four, leafBytes, bytesOf, bytes}
 use Rattle.layout.specs.Forms.{known, follows}
 use Rattle.layout.specs.Entities.{Entity, entityKinds, CustomSql, Function, PostgresType, PostgresEnum, OrdOrHash, Aggregate, Trigger}
 use Rattle.layout.specs.Answers.{limit}
-use Rattle.layout.proofs.InBytes.{behind, bytesOf-append, four-complete}
+use Rattle.layout.proofs.InBytes.{rest-after, bytesOf-append, four-complete}
 use Rattle.layout.proofs.Tables.{known-outside}
 use Rattle.bytes.specs.Bytes.{numberOr0}
 use Rattle.bytes.proofs.Number.{number-there}
 use Rattle.section.specs.Derivation.{Item, sentinel, entity, payload, ProperItem}
+use Rattle.runs.specs.Runs.{textFrom}
 use Rattle.paths.specs.Paths.{fullPathFields, fieldOf, textOf, fullPath}
 use Rattle.paths.specs.Theorems.{PathText, Path-text}
-use Rattle.paths.specs.Private.{textFrom, Field, T, N, behindField, behindFields, fieldsBefore, placeBy, pathPlace, textUnless0, pathAt, TextIn, PayloadIn}
+use Rattle.paths.specs.Private.{Field, T, N, afterField, afterFields, fieldsBefore, placeBy, pathPlace, textUnless0, pathAt, PayloadIn}
 
 -- A length that stands at a place
 length-stands : (s : List ℕ) (at n : ℕ) (r : List ℕ) → n < 4294967296 → drop at s ≡ four n ++ r → (at + 4 ≤ length s) × (numberOr0 s at ≡ n)
 length-stands s at n r h e =
-    let d : drop (at + 4) s ≡ r = behind s at (four n) r e in
+    let d : drop (at + 4) s ≡ r = rest-after s at (four n) r e in
     let (l, k) = four-complete s at (at + 4) n h (rw d e) in
     let i : at + 4 ≤ length s = leb-true (at + 4) (length s) l in
     (i, number-there s at i ∙ k)
@@ -40,15 +41,15 @@ data AreFields : List Field → List Leaf → Type 0 where
   none : AreFields [] []
   more : {f : Field} {x : Leaf} {fs : List Field} {xs : List Leaf} → IsField f x → AreFields fs xs → AreFields (f ∷ fs) (x ∷ xs)
 
-behind-field : (s : List ℕ) {f : Field} {x : Leaf} (at : ℕ) (r : List ℕ) → IsField f x → drop at s ≡ leafBytes x ++ r → drop (behindField s f at) s ≡ r
-behind-field s at r (a-text {t} h) e =
+after-field : (s : List ℕ) {f : Field} {x : Leaf} (at : ℕ) (r : List ℕ) → IsField f x → drop at s ≡ leafBytes x ++ r → drop (afterField s f at) s ≡ r
+after-field s at r (a-text {t} h) e =
     let g : drop at s ≡ four (length t) ++ (t ++ r) = rw append-assoc at e in
-    rw (length-stands s at (length t) (t ++ r) h g .1) (behind s (at + 4) t r (behind s at (four (length t)) (t ++ r) g))
-behind-field s at r (a-number {n}) e = behind s at (four n) r e
+    rw (length-stands s at (length t) (t ++ r) h g .1) (rest-after s (at + 4) t r (rest-after s at (four (length t)) (t ++ r) g))
+after-field s at r (a-number {n}) e = rest-after s at (four n) r e
 
-behind-fields : (s : List ℕ) {fs : List Field} {xs : List Leaf} (at : ℕ) (r : List ℕ) → AreFields fs xs → drop at s ≡ bytesOf xs ++ r → drop (behindFields s fs at) s ≡ r
-behind-fields s at r none e = e
-behind-fields s at r (more {f} {x} {fs} {xs} h hs) e = behind-fields s (behindField s f at) r hs (behind-field s at (bytesOf xs ++ r) h (rw append-assoc at e))
+after-fields : (s : List ℕ) {fs : List Field} {xs : List Leaf} (at : ℕ) (r : List ℕ) → AreFields fs xs → drop at s ≡ bytesOf xs ++ r → drop (afterFields s fs at) s ≡ r
+after-fields s at r none e = e
+after-fields s at r (more {f} {x} {fs} {xs} h hs) e = after-fields s (afterField s f at) r hs (after-field s at (bytesOf xs ++ r) h (rw append-assoc at e))
 
 -- The place by a kind that is known
 pub place-in : (s : List ℕ) (at kind : ℕ) → getD s at 0 ≡ kind → pathPlace s at ≡ placeBy fieldsBefore s kind (at + 1)
@@ -88,21 +89,20 @@ text-unless : (s : List ℕ) (p : ℕ) → 1 ≤ p → textUnless0 s p ≡ textF
 text-unless s zero h = absurd (omega arith)
 text-unless s (suc p) h = refl
 
-text-stands : (s : List ℕ) (at : ℕ) (t r : List ℕ) → length t < 4294967296 → drop at s ≡ leafBytes (string t) ++ r → TextIn s at × (textFrom s at ≡ t)
+text-stands : (s : List ℕ) (at : ℕ) (t r : List ℕ) → length t < 4294967296 → drop at s ≡ leafBytes (string t) ++ r → (at + 4 ≤ length s) × (textFrom s at ≡ t)
 unfolding textFrom
 text-stands s at t r h e =
     let g : drop at s ≡ four (length t) ++ (t ++ r) = rw append-assoc at e in
     let (i, k) = length-stands s at (length t) (t ++ r) h g in
-    let d : drop (at + 4) s ≡ t ++ r = behind s at (four (length t)) (t ++ r) g in
-    let l : at + 4 + length t ≤ length s = omega (arith, ap length d, length-append t r, length-drop (at + 4) s) in
-    (record { begins = i; ends = rw k l }, rw (k, d) (take-append-seam t r))
+    let d : drop (at + 4) s ≡ t ++ r = rest-after s at (four (length t)) (t ++ r) g in
+    (i, rw (k, d) (take-append-seam t r))
 
-behind-later : (s : List ℕ) (fs : List Field) (at : ℕ) → at ≤ behindFields s fs at
-behind-later s [] at = omega arith
-behind-later s (T ∷ fs) at = omega (arith, behind-later s fs (at + 4 + numberOr0 s at))
-behind-later s (N ∷ fs) at = omega (arith, behind-later s fs (at + 4))
+after-later : (s : List ℕ) (fs : List Field) (at : ℕ) → at ≤ afterFields s fs at
+after-later s [] at = omega arith
+after-later s (T ∷ fs) at = omega (arith, after-later s fs (at + 4 + numberOr0 s at))
+after-later s (N ∷ fs) at = omega (arith, after-later s fs (at + 4))
 
--- The leaves behind an entity's kind, cut at its full_path
+-- The leaves after an entity's kind, cut at its full_path
 record Cut (kind : ℕ) (ls : List Leaf) : Type 0 where
   fields : List Field
   before : List Leaf
@@ -111,7 +111,7 @@ record Cut (kind : ℕ) (ls : List Leaf) : Type 0 where
   are : AreFields fields before
   fits : length text < 4294967296
   stands : ls ≡ before ++ (string text ∷ after)
-  place : (s : List ℕ) (at : ℕ) → placeBy fieldsBefore s kind at ≡ behindFields s fields at
+  place : (s : List ℕ) (at : ℕ) → placeBy fieldsBefore s kind at ≡ afterFields s fields at
   field : fieldOf fullPathFields kind ≡ suc (length before)
 
 -- An entity has no full_path, or its leaves are cut there
@@ -120,7 +120,7 @@ data Cutting (kind : ℕ) (ls : List Leaf) : Type 0 where
   cut : Cut kind ls → Cutting kind ls
 
 -- No kind is above 9
-kind-above : (n : ℕ) → 9 < n → known unknown-kind entityKinds n ≡ fine → ⊥
+pub kind-above : (n : ℕ) → 9 < n → known unknown-kind entityKinds n ≡ fine → ⊥
 kind-above n h k =
     let e : known unknown-kind entityKinds n ≡ wrong unknown-kind = known-outside unknown-kind entityKinds n (above 1 (omega arith), (above 2 (omega arith), (above 3 (omega arith), (above 4 (omega arith), (above 5 (omega arith), (above 6 (omega arith), (above 7 (omega arith), (above 8 (omega arith), (above 9 (omega arith), tt))))))))) in
     let z : _≡_ {A = ℕ} 0 1 = cc in
@@ -154,13 +154,13 @@ cut-kind (suc (suc (suc (suc (suc (suc (suc (suc (suc zero))))))))) b k p =
     { fields = T ∷ T ∷ N ∷ T ∷ []; before = string (b .0) ∷ string (b .1 .0) ∷ plain Number (b .1 .1 .0) ∷ string (b .1 .1 .1 .0) ∷ []; text = b .1 .1 .1 .1 .0; after = drop 5 (leaves Trigger b); are = more (a-text (p .0 .1)) (more (a-text (p .1 .0 .1)) (more a-number (more (a-text (p .1 .1 .1 .0 .1)) none))); fits = p .1 .1 .1 .1 .0 .1; stands = refl; place = λ s at. refl; field = refl })
 cut-kind (suc (suc (suc (suc (suc (suc (suc (suc (suc (suc n)))))))))) b k p = absurd (kind-above (suc (suc (suc (suc (suc (suc (suc (suc (suc (suc n)))))))))) (omega arith) k)
 
--- The text behind some leaves
-text-behind : (xs : List Leaf) (t : List ℕ) (ls : List Leaf) → getD (map textOf (xs ++ (string t ∷ ls))) (length xs) [] ≡ t
-text-behind [] t ls = refl
-text-behind (x ∷ xs) t ls = text-behind xs t ls
+-- The text after some leaves
+text-after : (xs : List Leaf) (t : List ℕ) (ls : List Leaf) → getD (map textOf (xs ++ (string t ∷ ls))) (length xs) [] ≡ t
+text-after [] t ls = refl
+text-after (x ∷ xs) t ls = text-after xs t ls
 
 path-cut : (kind : ℕ) (ls : List Leaf) (c : Cut kind ls) → fullPath (plain Kind kind ∷ ls) ≡ c .text ∷ []
-path-cut kind ls c = rw (c .field, c .stands) (ap (λ (t : List ℕ). t ∷ []) (text-behind (c .before) (c .text) (c .after)))
+path-cut kind ls c = rw (c .field, c .stands) (ap (λ (t : List ℕ). t ∷ []) (text-after (c .before) (c .text) (c .after)))
 
 pub path-text : Path-text
 unfolding Entity
@@ -182,15 +182,15 @@ found-cut : (s : List ℕ) (at kind : ℕ) (ls : List Leaf) (r : List ℕ) → l
 unfolding pathAt
 found-cut s at kind ls r h c e =
     let (b, k) = first-byte s at kind _ e in
-    let end : ℕ = behindFields s (c .fields) (at + 1) in
+    let end : ℕ = afterFields s (c .fields) (at + 1) in
     let q : pathPlace s at ≡ end = place-in s at kind k ∙ c .place s (at + 1) in
     let x : List ℕ = leafBytes (string (c .text)) in
     let y : List ℕ = bytesOf (c .after) in
     let g : bytesOf ls ++ r ≡ bytesOf (c .before) ++ (x ++ (y ++ r)) = rw (c .stands, bytesOf-append (c .before) (string (c .text) ∷ c .after)) (append-assoc (bytesOf (c .before)) (x ++ y) r ∙ ap (λ (z : List ℕ). bytesOf (c .before) ++ z) (append-assoc x y r)) in
-    let (i, u) = text-stands s end (c .text) (y ++ r) (c .fits) (behind-fields s (at + 1) (x ++ (y ++ r)) (c .are) (behind s at (kind ∷ []) _ e ∙ g)) in
+    let (i, u) = text-stands s end (c .text) (y ++ r) (c .fits) (after-fields s (at + 1) (x ++ (y ++ r)) (c .are) (rest-after s at (kind ∷ []) _ e ∙ g)) in
     record {
       inside = record { small = h; begins = b; path = λ n. rw q i };
-      path = rw (q, text-unless s end (omega (arith, behind-later s (c .fields) (at + 1)))) (ap (λ (z : List ℕ). z ∷ []) u);
+      path = rw (q, text-unless s end (omega (arith, after-later s (c .fields) (at + 1)))) (ap (λ (z : List ℕ). z ∷ []) u);
     }
 
 found-cutting : (s : List ℕ) (at kind : ℕ) (ls : List Leaf) (r : List ℕ) → length s ≤ limit → Cutting kind ls → drop at s ≡ bytesOf (plain Kind kind ∷ ls) ++ r → Found s at (fullPath (plain Kind kind ∷ ls))

@@ -1,3 +1,5 @@
 pub mod Fields
 pub mod Walk
+pub mod Few
+pub mod Places
 pub mod Report

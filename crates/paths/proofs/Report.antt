@@ -20,7 +20,8 @@ use Rattle.section.proofs.Refusals.{refusal-exact}
 use Rattle.section.specs.Rest.{Rest}
 use Rattle.section.proofs.Demand3.{refusal-numbered}
 use Rattle.section.proofs.Rest.{rest-whole}
-use Rattle.paths.specs.Paths.{paths, pairs, report}
+use Rattle.runs.specs.Runs.{pairs}
+use Rattle.paths.specs.Paths.{paths, report}
 use Rattle.paths.specs.Theorems.{Report-exact, Report-numbered}
 use Rattle.paths.specs.Private.{Counts}
 use Rattle.layout.specs.Answers as answers

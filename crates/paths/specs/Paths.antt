@@ -1,5 +1,5 @@
--- The path report: document 01, "Added to the crate".
-use Prim.Native.Nat.{ℕ, zero, suc, _+_}
+-- The path report (docs/FORMAT.md, The path report).
+use Prim.Native.Nat.{ℕ, zero, suc}
 use mathlib.Core.Bool.{cond}
 use mathlib.Core.List.{List, [], _∷_, _++_, map}
 use lib.Dec.{eqb}
@@ -7,7 +7,7 @@ use lib.ListN.{getD}
 use Rattle.layout.specs.Layout.{Leaf, plain, string}
 use Rattle.layout.specs.Entities.{valueIn}
 use Rattle.layout.specs.Reading.{Outcome, ok, refuse}
-use Rattle.bytes.specs.Bytes.{same}
+use Rattle.runs.specs.Runs.{pairs}
 use Rattle.table.specs.Answers.{Total, counted, uncounted}
 use Rattle.section.specs.Derivation.{Placed}
 use Rattle.section.specs.Section.{readSection}
@@ -50,16 +50,6 @@ fullPath ls = textField ls (fieldOf fullPathFields (valueIn ls 0))
 abbrev pub paths : List Placed → List (List ℕ)
 paths [] = []
 paths (e ∷ es) = fullPath (e .content) ++ paths es
-
--- How many of some texts have the bytes of t
-abbrev pub equals : List ℕ → List (List ℕ) → ℕ
-equals t [] = 0
-equals t (u ∷ us) = cond (same t u) 1 0 + equals t us
-
--- The number of unordered pairs of texts with the same bytes: each with those after it
-abbrev pub pairs : List (List ℕ) → ℕ
-pairs [] = 0
-pairs (t ∷ ts) = equals t ts + pairs ts
 
 -- The report on what is read: the number of pairs, or a refusal
 abbrev pub reportOn : Outcome ℕ (List Placed) → Total

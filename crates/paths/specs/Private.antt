@@ -1,34 +1,31 @@
 -- What only the private functions of the crate promise one another. No public contract cites anything here.
 use Prim.Native.Nat.{ℕ, zero, suc, _+_, _≤_, _<_}
 use mathlib.Core.Bool.{cond}
-use mathlib.Core.List.{List, [], _∷_}
+use mathlib.Core.List.{List, [], _∷_, _++_}
 use mathlib.Core.Path.{_≡_}
 use lib.Dec.{eqb}
-use lib.ListN.{length, getD, take, drop}
+use lib.ListN.{length, getD, take}
 use Rattle.layout.specs.Answers.{limit}
 use Rattle.bytes.specs.Bytes.{numberOr0}
 use Rattle.section.specs.Derivation.{placed}
 use Rattle.section.specs.Rest.{Rest}
-use Rattle.paths.specs.Paths.{paths, equals, pairs}
-
--- The text whose length stands at a place
-unfoldable pub textFrom : List ℕ → ℕ → List ℕ
-textFrom s at = take (numberOr0 s at) (drop (at + 4) s)
+use Rattle.runs.specs.Runs.{textFrom, texts, equals, pairs}
+use Rattle.paths.specs.Paths.{paths}
 
 -- The field of a text or a number
 pub data Field : Type 0 where
   T : Field
   N : Field
 
--- Behind a field that begins at a place
-abbrev pub behindField : List ℕ → Field → ℕ → ℕ
-behindField s T at = at + 4 + numberOr0 s at
-behindField s N at = at + 4
+-- Where a field that begins at a place ends
+abbrev pub afterField : List ℕ → Field → ℕ → ℕ
+afterField s T at = at + 4 + numberOr0 s at
+afterField s N at = at + 4
 
--- Behind fields of which the first begins at a place
-abbrev pub behindFields : List ℕ → List Field → ℕ → ℕ
-behindFields s [] at = at
-behindFields s (f ∷ fs) at = behindFields s fs (behindField s f at)
+-- Where fields end of which the first begins at a place
+abbrev pub afterFields : List ℕ → List Field → ℕ → ℕ
+afterFields s [] at = at
+afterFields s (f ∷ fs) at = afterFields s fs (afterField s f at)
 
 -- A kind with a full_path, and the fields before it
 abbrev pub fieldsBefore : List (ℕ × List Field)
@@ -43,10 +40,10 @@ fieldsBefore =
     ∷ (9, T ∷ T ∷ N ∷ T ∷ [])
     ∷ []
 
--- Behind the fields before the full_path, or 0
+-- Where the fields before the full_path end, 0 for a kind that has none
 abbrev pub placeBy : List (ℕ × List Field) → List ℕ → (kind at : ℕ) → ℕ
 placeBy [] s kind at = 0
-placeBy (row ∷ rows) s kind at = cond (eqb kind (row .0)) (behindFields s (row .1) at) (placeBy rows s kind at)
+placeBy (row ∷ rows) s kind at = cond (eqb kind (row .0)) (afterFields s (row .1) at) (placeBy rows s kind at)
 
 -- The place of the full_path of the payload that begins at a place, 0 if it has none
 unfoldable pub pathPlace : List ℕ → ℕ → ℕ
@@ -73,16 +70,11 @@ far = 1099511627776
 abbrev pub longest : ℕ
 longest = 4294967300
 
--- The text whose length stands at a place is inside s
-pub record TextIn (s : List ℕ) (at : ℕ) : Type 0 where
-  pub begins : at + 4 ≤ length s
-  pub ends : at + 4 + numberOr0 s at ≤ length s
-
--- A payload that begins at a place is inside s, with its full_path if it has one
+-- A payload that begins at a place is inside s, and so is the length of its full_path, if it has one
 pub record PayloadIn (s : List ℕ) (at : ℕ) : Type 0 where
   pub small : length s ≤ limit
   pub begins : at < length s
-  pub path : (pathPlace s at ≡ 0 → ⊥) → TextIn s (pathPlace s at)
+  pub path : (pathPlace s at ≡ 0 → ⊥) → pathPlace s at + 4 ≤ length s
 
 -- The pairs of one of some texts with one of some others
 abbrev pub pairsWith : List (List ℕ) → List (List ℕ) → ℕ
@@ -97,3 +89,15 @@ Counts s at n = (w : Rest s at) → n ≡ pairs (pathsOf w)
 pub record CountsWith (s : List ℕ) (payload next n : ℕ) : Type 0 where
   pub small : n ≤ limit
   pub counts : (w : Rest s next) → n ≡ pairsWith (pathAt s payload) (pathsOf w)
+
+-- Of the full_path texts there are as many as found, and their places stand in the work, if it has room for them
+pub record Gathered (s work : List ℕ) (found : ℕ) : Type 0 where
+  pub small : found ≤ limit
+  pub are : found ≤ length work → (w : Rest s 0) → texts s (take found work) ≡ pathsOf w
+
+-- After the places found before stands that of a payload's full_path, if it has one and there is room, and it is counted
+pub record Put (s : List ℕ) (payload : ℕ) (before : List ℕ) (found : ℕ) (after : List ℕ) (more : ℕ) : Type 0 where
+  pub length-is : length after ≡ length before
+  pub least : found ≤ more
+  pub most : more ≤ found + 1
+  pub put : more ≤ length after → texts s (take more after) ≡ texts s (take found before) ++ pathAt s payload

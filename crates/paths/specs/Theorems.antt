@@ -1,5 +1,5 @@
 -- What is proved of the definitions, as statements. Each comment names the proof, in proofs/.
-use Prim.Native.Nat.{ℕ, _≤_}
+use Prim.Native.Nat.{ℕ, _*_, _≤_}
 use mathlib.Core.List.{List, [], _∷_, _++_}
 use mathlib.Core.Path.{_≡_}
 use lib.ListN.{length}
@@ -10,9 +10,10 @@ use Rattle.section.specs.Derivation.{Derivation, entitiesOf}
 use Rattle.section.specs.Refusals.{SectionRefusal}
 use Rattle.section.specs.Demand3.{Good}
 use Rattle.table.specs.Answers.{counted, uncounted}
-use Rattle.paths.specs.Paths.{fullPathFields, fieldOf, fullPath, paths, pairs, report}
+use Rattle.runs.specs.Runs.{pairs}
+use Rattle.paths.specs.Paths.{fullPathFields, fieldOf, fullPath, paths, report}
 
--- Behind as many leaves of an entity as `fullPathFields` has for its kind stands a text, and that is its full_path
+-- After as many leaves of an entity as `fullPathFields` has for its kind stands a text, and that is its full_path
 pub record PathText (ls : List Leaf) : Type 0 where
   pub before : List Leaf
   pub text : List ℕ
@@ -35,3 +36,7 @@ Report-exact =
 -- A report's refusals are 1 to 12: `report-numbered` in Report.antt
 abbrev pub Report-numbered : Type 0
 Report-numbered = (s : List ℕ) → Bytes s → (n p : ℕ) → report s ≡ uncounted n p → (1 ≤ n) × (n ≤ 12)
+
+-- An entry with a full_path takes 27 bytes or more, so that as many numbers of work as a 27th of the bytes are enough: `paths-few` in Few.antt
+abbrev pub Paths-few : Type 0
+Paths-few = (s : List ℕ) (d : Derivation) → Good s d → 27 * length (paths (entitiesOf d)) ≤ length s

@@ -4,10 +4,11 @@ use table::Refusal;
 ghost use mathlib.Core.List.{[], _∷_};
 ghost use mathlib.Core.Path.{_≡_};
 ghost use Prim.Native.Nat.{_+_, _*_, _<_, _≤_};
-ghost use Rattle.bytes.specs.Bytes.{same};
+ghost use Rattle.layout.specs.Answers.{limit};
+ghost use Rattle.runs.specs.Runs.{textFrom, equals};
 ghost use Rattle.section.specs.Rest.{Rest};
-ghost use Rattle.paths.specs.Paths.{equals, pairs, report, reportOf};
-ghost use Rattle.paths.specs.Private.{textFrom, T, N, behindFields, pathPlace, pathAt, far, longest, TextIn, PayloadIn, Counts, CountsWith};
+ghost use Rattle.paths.specs.Paths.{report, reportOf};
+ghost use Rattle.paths.specs.Private.{T, N, afterFields, pathPlace, pathAt, far, longest, PayloadIn, Counts, CountsWith, Gathered, Put};
 
 // The number of pairs, or a section's refusal.
 pub enum PathReport {
@@ -15,9 +16,10 @@ pub enum PathReport {
     Refused(Refusal),
 }
 
-// The number of unordered pairs of entities with the same full_path bytes, or the section's refusal of 1 to 12. The section is
-// read through a table without rows, so that 13 only says that it is derived and has leaves.
-pub fn path_report(section: &[u8]) -> PathReport
+// The number of unordered pairs of entities with the same full_path bytes, or the section's refusal of 1 to 12. The answer does
+// not depend on `work`, and what `work` holds afterwards is free. The section is read through a table without rows, so that 13
+// only says that it is derived and has leaves.
+pub fn path_report(section: &[u8], work: &mut [u32]) -> PathReport
     ensures { λ r. ⌜ reportOf r ≡ report (now (section .entry)) ⌝ }
 {
     let mut none: [u32; 0] = [];
@@ -27,21 +29,65 @@ pub fn path_report(section: &[u8]) -> PathReport
             entities: _,
             rows: _,
         } => PathReport::Counted {
-            pairs: count_pairs(section),
+            pairs: count_pairs(section, work),
         },
         Answer::Refused(refusal) => {
             if refusal.number != 13 {
                 return PathReport::Refused(refusal);
             }
             PathReport::Counted {
-                pairs: count_pairs(section),
+                pairs: count_pairs(section, work),
             }
         }
     }
 }
 
-// The pairs of a derived section: each entity with those after it.
-fn count_pairs(s: &[u8]) -> u64
+// The pairs of a derived section: by sorting, if `work` has room for the place of each full_path; else one by one.
+fn count_pairs(s: &[u8], work: &mut [u32]) -> u64
+    requires { ⌜ Rest (now s) 0 ⌝ }
+    ensures { λ r. ⌜ Counts (now (s .entry)) 0 r ⌝ }
+{
+    let found = find_paths(s, work);
+    if work.len() < found {
+        return count_one_by_one(s);
+    }
+    runs::equal_pairs(s, &mut work[..found])
+}
+
+// How many entities of a derived section have a full_path. The place of each is stored in `work`, as far as there is room.
+fn find_paths(s: &[u8], work: &mut [u32]) -> usize
+    requires { ⌜ Rest (now s) 0 ⌝ }
+    ensures { λ r. ⌜ Gathered (now (s .entry)) (now (work .exit)) r ⌝ }
+{
+    let mut at: usize = 0;
+    let mut found: usize = 0;
+    let mut size = bytes::number_at(s, at);
+    while size != 0 {
+        let payload = at + 4;
+        found = put_path(s, payload, work, found);
+        at = payload + size as usize;
+        size = bytes::number_at(s, at);
+    }
+    found
+}
+
+// Stores the place of a payload's full_path, if it has one and there is room, after those found before, and counts it.
+fn put_path(s: &[u8], payload: usize, work: &mut [u32], found: usize) -> usize
+    requires { ⌜ PayloadIn (now s) payload × (found ≤ limit) ⌝ }
+    ensures { λ r. ⌜ Put (now (s .entry)) payload (now (work .entry)) found (now (work .exit)) r ⌝ }
+{
+    let path = full_path(s, payload);
+    if path == 0 {
+        return found;
+    }
+    if found < work.len() {
+        work[found] = path as u32;
+    }
+    found + 1
+}
+
+// The pairs of a derived section, one by one: each entity with those after it.
+fn count_one_by_one(s: &[u8]) -> u64
     requires { ⌜ Rest (now s) 0 ⌝ }
     ensures { λ r. ⌜ Counts (now (s .entry)) 0 r ⌝ }
 {
@@ -80,33 +126,17 @@ fn pairs_with_later(s: &[u8], payload: usize, next: usize) -> u64
 
 // 1 if a payload has a full_path with the bytes of the text whose length stands at `path`, else 0.
 fn pair(s: &[u8], path: usize, payload: usize) -> u64
-    requires { ⌜ TextIn (now s) path × PayloadIn (now s) payload ⌝ }
+    requires { ⌜ PayloadIn (now s) payload ⌝ }
     ensures { λ r. ⌜ (r ≡ equals (textFrom (now (s .entry)) path) (pathAt (now (s .entry)) payload)) × (r ≤ 1) ⌝ }
 {
     let other = full_path(s, payload);
     if other == 0 {
         return 0;
     }
-    if same_text(s, path, other) {
+    if runs::same_text(s, path, other) {
         return 1;
     }
     0
-}
-
-// Whether the texts whose lengths stand at two places have the same bytes. The lengths are compared first.
-fn same_text(s: &[u8], a: usize, b: usize) -> bool
-    requires { ⌜ TextIn (now s) a × TextIn (now s) b ⌝ }
-    ensures { λ r. ⌜ r ≡ same (textFrom (now (s .entry)) a) (textFrom (now (s .entry)) b) ⌝ }
-{
-    let size = bytes::number_at(s, a) as usize;
-    if size != bytes::number_at(s, b) as usize {
-        return false;
-    }
-    let i = a + 4;
-    let j = b + 4;
-    let k = i + size;
-    let l = j + size;
-    bytes::same(&s[i..k], &s[j..l])
 }
 
 // Where the length of a payload's full_path stands, or 0: a schema and the sentinel, which begins with 0, have none.
@@ -117,38 +147,38 @@ fn full_path(s: &[u8], payload: usize) -> usize
     let kind = bytes::wide(s[payload]);
     let at = payload + 1;
     match kind {
-        layout::ENTITY_CUSTOM_SQL => behind_two_texts(s, at),
-        layout::ENTITY_FUNCTION => behind_text(s, behind_two_texts(s, at)),
-        layout::ENTITY_TYPE => behind_text(s, behind_name_file_line(s, at)),
-        layout::ENTITY_ENUM => behind_text(s, behind_name_file_line(s, at)),
-        layout::ENTITY_ORD => behind_name_file_line(s, at),
-        layout::ENTITY_HASH => behind_name_file_line(s, at),
+        layout::ENTITY_CUSTOM_SQL => after_two_texts(s, at),
+        layout::ENTITY_FUNCTION => after_text(s, after_two_texts(s, at)),
+        layout::ENTITY_TYPE => after_text(s, after_name_file_line(s, at)),
+        layout::ENTITY_ENUM => after_text(s, after_name_file_line(s, at)),
+        layout::ENTITY_ORD => after_name_file_line(s, at),
+        layout::ENTITY_HASH => after_name_file_line(s, at),
         layout::ENTITY_AGGREGATE => at,
-        layout::ENTITY_TRIGGER => behind_text(s, behind_name_file_line(s, at)),
+        layout::ENTITY_TRIGGER => after_text(s, after_name_file_line(s, at)),
         _ => 0,
     }
 }
 
-// Behind a text that begins at a place with its length.
-fn behind_text(s: &[u8], at: usize) -> usize
+// Where a text ends that begins at a place with its length.
+fn after_text(s: &[u8], at: usize) -> usize
     requires { ⌜ at < far ⌝ }
-    ensures { λ r. ⌜ (r ≡ behindFields (now (s .entry)) (T ∷ []) at) × (r < at + longest) ⌝ }
+    ensures { λ r. ⌜ (r ≡ afterFields (now (s .entry)) (T ∷ []) at) × (r < at + longest) ⌝ }
 {
     at + 4 + bytes::number_at(s, at) as usize
 }
 
-// Behind two texts.
-fn behind_two_texts(s: &[u8], at: usize) -> usize
+// Where two texts end.
+fn after_two_texts(s: &[u8], at: usize) -> usize
     requires { ⌜ at + longest < far ⌝ }
-    ensures { λ r. ⌜ (r ≡ behindFields (now (s .entry)) (T ∷ T ∷ []) at) × (r < at + 2 * longest) ⌝ }
+    ensures { λ r. ⌜ (r ≡ afterFields (now (s .entry)) (T ∷ T ∷ []) at) × (r < at + 2 * longest) ⌝ }
 {
-    behind_text(s, behind_text(s, at))
+    after_text(s, after_text(s, at))
 }
 
-// Behind name or function_name, file and line.
-fn behind_name_file_line(s: &[u8], at: usize) -> usize
+// Where name or function_name, file and line end.
+fn after_name_file_line(s: &[u8], at: usize) -> usize
     requires { ⌜ at + 2 * longest < far ⌝ }
-    ensures { λ r. ⌜ (r ≡ behindFields (now (s .entry)) (T ∷ T ∷ N ∷ []) at) × (r < at + 3 * longest) ⌝ }
+    ensures { λ r. ⌜ (r ≡ afterFields (now (s .entry)) (T ∷ T ∷ N ∷ []) at) × (r < at + 3 * longest) ⌝ }
 {
-    behind_two_texts(s, at) + 4
+    after_two_texts(s, at) + 4
 }

@@ -1,13 +1,12 @@
 -- What four numbers tell of a reading, a measuring, a writing and a part.
-use Prim.Native.Nat.{ℕ, _+_, _-_}
+use Prim.Native.Nat.{ℕ}
 use native.Mathlib.Omega.{arith}
 use mathlib.Core.Bool.{Bool}
-use mathlib.Core.List.{List, [], _∷_}
+use mathlib.Core.List.{List}
 use mathlib.Core.Logic.{_↔_}
 use mathlib.Core.Path.{_≡_, refl, sym, ap, subst, _∙_}
 use borrow.Author.Tests.{ne-eqb}
 use Rattle.layout.specs.Layout.{Layout}
-use Rattle.layout.specs.Reading.{ok}
 use Rattle.layout.specs.Answers.{Answer, Result}
 use Rattle.layout.specs.Alone.{ExactAlone}
 use Rattle.layout.specs.ReadAlone.{readingAlone}
@@ -18,7 +17,7 @@ use Rattle.section.specs.Demand3.{Demand3}
 use Rattle.section.proofs.Demand3.{reading-meets, reading-told}
 use Rattle.table.specs.Answers.{answerOf, resultOf, Total, counted, uncounted}
 use Rattle.entry_writer.specs.Refusals.{WriteRefusal, not-spelled, bad-text, too-long, no-space}
-use Rattle.pgrxsc.specs.Numbers.{answerNumbers, answerIn, resultIn, partNumbers, lengthNumbers, lengthTold}
+use Rattle.packing.specs.Numbers.{answerNumbers, answerIn, resultIn, lengthNumbers, lengthTold}
 use Rattle.table.specs.declared.Answer as declared
 
 -- The numbers of an answer that its number tells, tell that answer
@@ -60,7 +59,3 @@ length-in (uncounted n p) h = rw (ne-eqb n 0 (h n p refl))
 pub length-told : (P : Total → Type 0) {L : Layout} {rows text : List ℕ} {size : ℕ} (numbers : List ℕ) (l : Total) → numbers ≡ lengthNumbers l
     → ((n p : ℕ) → (l ≡ uncounted n p) ↔ WriteRefusal L rows text size n × (p ≡ 0)) → P l → P (lengthTold numbers)
 length-told P numbers l e r x = subst P (sym (ap lengthTold e ∙ length-in l λ n p q. writing-some (r n p .0 q .0))) x
-
--- A part by its start and its length
-pub part-told : (start len : ℕ) → 0 ∷ 0 ∷ start ∷ len ∷ [] ≡ partNumbers (ok start (start + len))
-part-told start len = let e : len ≡ start + len - start = omega arith in ap (λ (n : ℕ). 0 ∷ 0 ∷ start ∷ n ∷ []) e

@@ -7,7 +7,7 @@ use lib.ListN.{length, drop, replicate}
 use Rattle.layout.specs.Layout.{Leaf, string, Layout, nothing, one, text, _then_, case, check, Value, leaves, Meets, Fits, Proper}
 use Rattle.layout.specs.Written.{four, bytesOf, bytes}
 use Rattle.layout.specs.Entities.{Entity}
-use Rattle.layout.proofs.InBytes.{bytesOf-append, behind, read-complete}
+use Rattle.layout.proofs.InBytes.{bytesOf-append, rest-after, read-complete}
 use Rattle.parts.proofs.RowText.{row-part}
 use Rattle.framing.specs.Entries.{sentinelBytes}
 use Rattle.section.specs.Derivation.{Item, sentinel, entity, entries, ProperItems, Placed, placed}
@@ -46,13 +46,13 @@ placed-one s at v r p d = record { fits = meets-each Fits Entity v p; rest = r; 
 placed-in : (s : List ℕ) (at : ℕ) (is : List Item) (r : List ℕ) → ProperItems is → drop at s ≡ entries is ++ r → (before after : List Placed) (e : Placed) → placed at is ≡ before ++ (e ∷ after) → PlacedIn s e
 placed-in s at [] r p d [] after e q = let z : _≡_ {A = ℕ} 0 1 = cc in absurd (omega arith)
 placed-in s at [] r p d (b ∷ before) after e q = let z : _≡_ {A = ℕ} 0 1 = cc in absurd (omega arith)
-placed-in s at (sentinel ∷ is) r p d before after e q = placed-in s (at + 4 + length sentinelBytes) is r (p .1) (behind s (at + 4) sentinelBytes (entries is ++ r) (behind s at (four (length sentinelBytes)) _ d)) before after e q
+placed-in s at (sentinel ∷ is) r p d before after e q = placed-in s (at + 4 + length sentinelBytes) is r (p .1) (rest-after s (at + 4) sentinelBytes (entries is ++ r) (rest-after s at (four (length sentinelBytes)) _ d)) before after e q
 placed-in s at (entity v ∷ is) r p d [] after e q =
     let g : drop at s ≡ four (length (bytes Entity v)) ++ (bytes Entity v ++ (entries is ++ r)) = simp append-assoc at d in
-    subst (PlacedIn s) (head-eq-of-cons-eq q) (placed-one s at v (entries is ++ r) (p .0 .0) (behind s at (four (length (bytes Entity v))) _ g))
+    subst (PlacedIn s) (head-eq-of-cons-eq q) (placed-one s at v (entries is ++ r) (p .0 .0) (rest-after s at (four (length (bytes Entity v))) _ g))
 placed-in s at (entity v ∷ is) r p d (b ∷ before) after e q =
     let g : drop at s ≡ four (length (bytes Entity v)) ++ (bytes Entity v ++ (entries is ++ r)) = simp append-assoc at d in
-    placed-in s (at + 4 + length (bytes Entity v)) is r (p .1) (behind s (at + 4) (bytes Entity v) (entries is ++ r) (behind s at (four (length (bytes Entity v))) _ g)) before after e (tail-eq-of-cons-eq q)
+    placed-in s (at + 4 + length (bytes Entity v)) is r (p .1) (rest-after s (at + 4) (bytes Entity v) (entries is ++ r) (rest-after s at (four (length (bytes Entity v))) _ g)) before after e (tail-eq-of-cons-eq q)
 
 pub text-found : Text-found
 text-found s d g before after e q ls ms t k row w =
@@ -60,5 +60,5 @@ text-found s d g before after e q ls ms t k row w =
     let f : Fits (string t) = each-middle Fits ls (string t) ms (rw k at (h .fits)) in
     let b : bytesOf (e .content) ≡ bytesOf ls ++ (bytesOf (string t ∷ []) ++ bytesOf ms) = rw (k, bytesOf-append ls (string t ∷ ms)) (ap (λ (x : List ℕ). bytesOf ls ++ x) (bytesOf-append (string t ∷ []) ms)) in
     let i : drop (e .at) s ≡ bytesOf ls ++ (bytesOf (string t ∷ []) ++ (bytesOf ms ++ h .rest)) = h .there ∙ rw (b, append-assoc, append-assoc) in
-    let j : drop (e .at + length (bytesOf ls)) s ≡ bytesOf (string t ∷ []) ++ (bytesOf ms ++ h .rest) = behind s (e .at) (bytesOf ls) _ i in
+    let j : drop (e .at + length (bytesOf ls)) s ≡ bytesOf (string t ∷ []) ++ (bytesOf ms ++ h .rest) = rest-after s (e .at) (bytesOf ls) _ i in
     row-part s (g .small) (e .at + length (bytesOf ls)) t _ (read-complete text t s (e .at + length (bytesOf ls)) (bytesOf ms ++ h .rest) f j) row w

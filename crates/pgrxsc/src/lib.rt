@@ -1,11 +1,5 @@
 // The functions that programs in other languages call. Each hands its work on and adds nothing but the packing of the answer:
 // four numbers, of which the first two are a refusal's number and place, or 0 and 0.
-use length::Length;
-use parts::TextPlace;
-use paths::PathReport;
-use sql_text::SqlPlace;
-use table::Answer;
-use table::Refusal;
 use table::Row;
 ghost use mathlib.Core.Bool.{true};
 ghost use mathlib.Core.Logic.{_↔_};
@@ -16,16 +10,26 @@ ghost use Rattle.text.specs.Walk.{utf8};
 ghost use Rattle.layout.specs.Entities.{Entity, SqlMapping, FunctionMetadataType};
 ghost use Rattle.layout.specs.Alone.{ExactAlone};
 ghost use Rattle.layout.specs.ReadAlone.{readingAlone};
-ghost use Rattle.table.specs.Answers.{answerOf};
 ghost use Rattle.section.specs.Section.{reading};
 ghost use Rattle.section.specs.Demand3.{Demand3};
-ghost use Rattle.parts.specs.Parts.{rowText, sqlNameIn, foundPart};
-ghost use Rattle.sql_text.specs.SqlText.{sqlText, filled, sqlAnswer, sqlAnswerOf};
-ghost use Rattle.paths.specs.Paths.{report, reportOf};
-ghost use Rattle.length.specs.Length.{lengthOf};
+ghost use Rattle.parts.specs.Parts.{rowText, sqlNameIn};
+ghost use Rattle.sql_text.specs.SqlText.{sqlText, filled, sqlAnswer};
+ghost use Rattle.paths.specs.Paths.{report};
 ghost use Rattle.entry_writer.specs.Writing.{measured, write, lengthIn, written};
 ghost use Rattle.entry_writer.specs.Refusals.{ExactLength, ExactWriting};
-ghost use Rattle.pgrxsc.specs.Numbers.{refusalNumbers, answerNumbers, resultIn, partNumbers, placeNumbers, inBuffer, lengthNumbers, lengthTold, reportNumbers, pairsIn};
+ghost use Rattle.pgrxsc.specs.Version.{version};
+ghost use Rattle.packing.specs.Numbers.{answerNumbers, resultIn, partNumbers, placeNumbers, inBuffer, lengthNumbers, lengthTold, reportNumbers, pairsIn};
+
+// The version of these functions, which include/pgrxsc.h has as PGRXSC_VERSION.
+const VERSION: u32 = 1;
+
+// Which version of these functions the archive has.
+#[no_mangle]
+pub extern "C" fn pgrxsc_version() -> u32
+    ensures { λ r. ⌜ r ≡ version ⌝ }
+{
+    VERSION
+}
 
 // Reads a whole section. The third number is that of entities, the fourth that of rows.
 #[no_mangle]
@@ -34,7 +38,7 @@ pub extern "C" fn pgrxsc_read_section(bytes: &[u8], table: &mut [u32], answer: &
     ensures { λ r. ⌜ now (table .exit) ≡ reading (now (bytes .entry)) (now (table .entry)) .table ⌝ }
     ensures { λ r. ⌜ Demand3 (now (bytes .entry)) (now (table .entry)) (resultIn (now (answer .exit)) (now (table .exit))) ⌝ }
 {
-    *answer = answer_numbers(section::decode_entities(bytes, table));
+    *answer = packing::answer_numbers(section::decode_entities(bytes, table));
 }
 
 // The same for one payload alone.
@@ -44,7 +48,7 @@ pub extern "C" fn pgrxsc_read_payload(bytes: &[u8], table: &mut [u32], answer: &
     ensures { λ r. ⌜ now (table .exit) ≡ readingAlone Entity 1 (now (bytes .entry)) (now (table .entry)) .table ⌝ }
     ensures { λ r. ⌜ ExactAlone Entity 1 (now (bytes .entry)) (now (table .entry)) (resultIn (now (answer .exit)) (now (table .exit))) ⌝ }
 {
-    *answer = answer_numbers(entity::decode_entity(bytes, table));
+    *answer = packing::answer_numbers(entity::decode_entity(bytes, table));
 }
 
 // The same for one metadata record alone.
@@ -54,7 +58,7 @@ pub extern "C" fn pgrxsc_read_metadata(bytes: &[u8], table: &mut [u32], answer: 
     ensures { λ r. ⌜ now (table .exit) ≡ readingAlone FunctionMetadataType 0 (now (bytes .entry)) (now (table .entry)) .table ⌝ }
     ensures { λ r. ⌜ ExactAlone FunctionMetadataType 0 (now (bytes .entry)) (now (table .entry)) (resultIn (now (answer .exit)) (now (table .exit))) ⌝ }
 {
-    *answer = answer_numbers(metadata::decode_function_metadata_type(bytes, table));
+    *answer = packing::answer_numbers(metadata::decode_function_metadata_type(bytes, table));
 }
 
 // The same for one mapping alone.
@@ -64,7 +68,7 @@ pub extern "C" fn pgrxsc_read_mapping(bytes: &[u8], table: &mut [u32], answer: &
     ensures { λ r. ⌜ now (table .exit) ≡ readingAlone SqlMapping 0 (now (bytes .entry)) (now (table .entry)) .table ⌝ }
     ensures { λ r. ⌜ ExactAlone SqlMapping 0 (now (bytes .entry)) (now (table .entry)) (resultIn (now (answer .exit)) (now (table .exit))) ⌝ }
 {
-    *answer = answer_numbers(metadata::decode_sql_mapping(bytes, table));
+    *answer = packing::answer_numbers(metadata::decode_sql_mapping(bytes, table));
 }
 
 // The text of a row of three numbers. The third number is its start in the bytes, the fourth its length.
@@ -83,7 +87,7 @@ pub extern "C" fn pgrxsc_row_text(
         offset,
         value,
     };
-    *answer = part_numbers(parts::place_row_text(bytes, row));
+    *answer = packing::part_numbers(parts::place_row_text(bytes, row));
 }
 
 // The same for the SQL name of a declaration, from the row of the declaration's name.
@@ -102,7 +106,7 @@ pub extern "C" fn pgrxsc_sql_name(
         offset,
         value,
     };
-    *answer = part_numbers(parts::place_sql_name(bytes, row));
+    *answer = packing::part_numbers(parts::place_sql_name(bytes, row));
 }
 
 // The SQL text of the mapping at an offset. The third number is its start, the fourth its length: in the buffer if 1 is returned,
@@ -119,8 +123,8 @@ pub extern "C" fn pgrxsc_sql_text(
     ensures { λ r. ⌜ now (buffer .exit) ≡ filled (now (buffer .entry)) (sqlText (now (bytes .entry)) offset (length (now (buffer .entry)))) ⌝ }
 {
     let place = sql_text::place_sql_text(bytes, offset, buffer);
-    *answer = place_numbers(place);
-    in_buffer(place)
+    *answer = packing::place_numbers(place);
+    packing::in_buffer(place)
 }
 
 // Writes a metadata record, from rows and lent text bytes, to the start of dest. The third number is its length.
@@ -135,7 +139,7 @@ pub extern "C" fn pgrxsc_write_metadata(
     ensures { λ r. ⌜ now (dest .exit) ≡ written (write FunctionMetadataType (now (rows .entry)) (now (text .entry)) (length (now (dest .entry)))) (now (dest .entry)) ⌝ }
     ensures { λ r. ⌜ ExactWriting FunctionMetadataType (now (rows .entry)) (now (text .entry)) (now (dest .entry)) (lengthTold (now (answer .exit))) (now (dest .exit)) ⌝ }
 {
-    *answer = length_numbers(writer::encode_function_metadata_type(rows, text, dest));
+    *answer = packing::length_numbers(writer::encode_function_metadata_type(rows, text, dest));
 }
 
 // The same for a mapping.
@@ -150,7 +154,7 @@ pub extern "C" fn pgrxsc_write_mapping(
     ensures { λ r. ⌜ now (dest .exit) ≡ written (write SqlMapping (now (rows .entry)) (now (text .entry)) (length (now (dest .entry)))) (now (dest .entry)) ⌝ }
     ensures { λ r. ⌜ ExactWriting SqlMapping (now (rows .entry)) (now (text .entry)) (now (dest .entry)) (lengthTold (now (answer .exit))) (now (dest .exit)) ⌝ }
 {
-    *answer = length_numbers(writer::encode_sql_mapping(rows, text, dest));
+    *answer = packing::length_numbers(writer::encode_sql_mapping(rows, text, dest));
 }
 
 // Measures a metadata record, from rows and lent text bytes, before it is written. The third number is its length.
@@ -159,7 +163,7 @@ pub extern "C" fn pgrxsc_metadata_len(rows: &[u32], text: &[u8], answer: &mut [u
     ensures { λ r. ⌜ now (answer .exit) ≡ lengthNumbers (lengthIn (measured FunctionMetadataType (now (rows .entry)) (now (text .entry)))) ⌝ }
     ensures { λ r. ⌜ ExactLength FunctionMetadataType (now (rows .entry)) (now (text .entry)) (lengthTold (now (answer .exit))) ⌝ }
 {
-    *answer = length_numbers(writer::function_metadata_type_len(rows, text));
+    *answer = packing::length_numbers(writer::function_metadata_type_len(rows, text));
 }
 
 // The same for a mapping.
@@ -168,18 +172,18 @@ pub extern "C" fn pgrxsc_mapping_len(rows: &[u32], text: &[u8], answer: &mut [u6
     ensures { λ r. ⌜ now (answer .exit) ≡ lengthNumbers (lengthIn (measured SqlMapping (now (rows .entry)) (now (text .entry)))) ⌝ }
     ensures { λ r. ⌜ ExactLength SqlMapping (now (rows .entry)) (now (text .entry)) (lengthTold (now (answer .exit))) ⌝ }
 {
-    *answer = length_numbers(writer::sql_mapping_len(rows, text));
+    *answer = packing::length_numbers(writer::sql_mapping_len(rows, text));
 }
 
-// The number of pairs of entities with the same full_path.
+// The number of pairs of entities with the same full_path. It does not depend on `work`; what `work` holds afterwards is free.
 #[no_mangle]
-pub extern "C" fn pgrxsc_path_pairs(bytes: &[u8], answer: &mut [u64; 4]) -> u64
+pub extern "C" fn pgrxsc_path_pairs(bytes: &[u8], work: &mut [u32], answer: &mut [u64; 4]) -> u64
     ensures { λ r. ⌜ r ≡ pairsIn (report (now (bytes .entry))) ⌝ }
     ensures { λ r. ⌜ now (answer .exit) ≡ reportNumbers (report (now (bytes .entry))) ⌝ }
 {
-    let report = paths::path_report(bytes);
-    *answer = report_numbers(report);
-    pairs_in(report)
+    let report = paths::path_report(bytes, work);
+    *answer = packing::report_numbers(report);
+    packing::pairs_in(report)
 }
 
 // Whether the bytes are UTF-8 by RFC 3629.
@@ -189,83 +193,4 @@ pub extern "C" fn pgrxsc_is_text(bytes: &[u8]) -> bool
     ensures { λ r. ⌜ (r ≡ true) ↔ Utf8 (now (bytes .entry)) ⌝ }
 {
     text::is_utf8(bytes)
-}
-
-// What a reading answers, as numbers.
-fn answer_numbers(answer: Answer) -> [u64; 4]
-    ensures { λ r. ⌜ r ≡ answerNumbers (answerOf answer) ⌝ }
-{
-    match answer {
-        Answer::Accepted { entities, rows } => [0, 0, entities as u64, rows as u64],
-        Answer::Refused(refusal) => refusal_numbers(refusal),
-    }
-}
-
-// A refusal, as an answer.
-fn refusal_numbers(refusal: Refusal) -> [u64; 4]
-    ensures { λ r. ⌜ r ≡ refusalNumbers (refusal .number) (refusal .place) ⌝ }
-{
-    [refusal.number as u64, refusal.place as u64, 0, 0]
-}
-
-// A part of the bytes, as an answer.
-fn part_numbers(place: TextPlace) -> [u64; 4]
-    ensures { λ r. ⌜ r ≡ partNumbers (foundPart place) ⌝ }
-{
-    match place {
-        TextPlace::Section { start, len } => [0, 0, start as u64, len as u64],
-        TextPlace::Refused(refusal) => refusal_numbers(refusal),
-    }
-}
-
-// Where an SQL text stands, as an answer.
-fn place_numbers(place: SqlPlace) -> [u64; 4]
-    ensures { λ r. ⌜ r ≡ placeNumbers (sqlAnswerOf place) ⌝ }
-{
-    match place {
-        SqlPlace::Section { start, len } => [0, 0, start as u64, len as u64],
-        SqlPlace::Buffer { len } => [0, 0, 0, len as u64],
-        SqlPlace::Refused(refusal) => refusal_numbers(refusal),
-    }
-}
-
-// Whether it stands in the buffer: 1 or 0.
-fn in_buffer(place: SqlPlace) -> u32
-    ensures { λ r. ⌜ r ≡ inBuffer (sqlAnswerOf place) ⌝ }
-{
-    match place {
-        SqlPlace::Section { start: _, len: _ } => 0,
-        SqlPlace::Buffer { len: _ } => 1,
-        SqlPlace::Refused(_) => 0,
-    }
-}
-
-// A length, as an answer.
-fn length_numbers(length: Length) -> [u64; 4]
-    ensures { λ r. ⌜ r ≡ lengthNumbers (lengthOf length) ⌝ }
-{
-    match length {
-        Length::Counted { count } => [0, 0, count as u64, 0],
-        Length::Refused(refusal) => refusal_numbers(refusal),
-    }
-}
-
-// A path report, as numbers.
-fn report_numbers(report: PathReport) -> [u64; 4]
-    ensures { λ r. ⌜ r ≡ reportNumbers (reportOf report) ⌝ }
-{
-    match report {
-        PathReport::Counted { pairs: _ } => [0, 0, 0, 0],
-        PathReport::Refused(refusal) => refusal_numbers(refusal),
-    }
-}
-
-// The pairs of a path report, 0 after a refusal.
-fn pairs_in(report: PathReport) -> u64
-    ensures { λ r. ⌜ r ≡ pairsIn (reportOf report) ⌝ }
-{
-    let PathReport::Counted { pairs } = report else {
-        return 0;
-    };
-    pairs
 }

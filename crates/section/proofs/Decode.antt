@@ -1,4 +1,4 @@
--- The whole reading, from what the code's calls answer.
+-- The whole reading, from the results of the code's calls.
 use Prim.Native.Nat.{ℕ, _≤_, _<_}
 use native.Mathlib.Omega.{arith}
 use mathlib.Core.List.{List}
@@ -25,7 +25,7 @@ use Rattle.section.proofs.Entries.{answers}
 pub promised : (s table : List ℕ) (r : Result) → Bytes s → r ≡ reading s table → (r ≡ reading s table) × Demand3 s table r
 promised s table r u e = (e, subst (λ (x : Result). Demand3 s table x) (sym e) (reading-meets s u table))
 
--- What the framing comes to, from a boundary up to which it is good
+-- The result of the framing, from a boundary up to which it is good
 module _ {s : List ℕ} {at : ℕ} (w : Walked s at) (f : Framed) (e : framingOf f ≡ endOf (framingFrom s at)) where
   pub framing-whole : (end : ℕ) → f ≡ Whole end → framingEnd s ≡ ok tt end
   framing-whole end k = w .rest ∙ sym e ∙ ap framingOf k

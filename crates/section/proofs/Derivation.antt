@@ -17,7 +17,7 @@ use Rattle.section.specs.Derivation.{Item, sentinel, entity, payload, en
 use Rattle.section.specs.Theorems.{Derivation-unique, Byte-sum, Rows-bound, movedBy, Sentinel-free}
 
 -- Sizes
-leafSize-bytes : (x : Leaf) → length (leafBytes x) ≡ leafSize x
+pub leafSize-bytes : (x : Leaf) → length (leafBytes x) ≡ leafSize x
 leafSize-bytes (plain Kind n) = refl
 leafSize-bytes (plain Tag n) = refl
 leafSize-bytes (plain Flag n) = refl
@@ -45,7 +45,7 @@ leaves-sizes (e ∷ es) = omega (arith, leafSizes-bytes (e .content), leaves-byt
 pub rows-bound : Rows-bound
 rows-bound d = omega (arith, byte-sum d, leaves-sizes (entitiesOf d))
 
--- A payload has a byte at least, and its length fits 4 bytes
+-- A payload has at least one byte, and its length fits 4 bytes
 pub payload-some : (i : Item) → 1 ≤ length (payload i)
 unfolding Entity
 payload-some sentinel = omega arith
@@ -88,7 +88,7 @@ item-unique sentinel (entity w) p q e = absurd (kind-some w (q .0) _ (sym e))
 item-unique (entity v) sentinel p q e = absurd (kind-some v (p .0) _ e)
 item-unique (entity v) (entity w) p q e = ap entity (value-unique Entity v w [] [] (p .0) (q .0) (rw e) .0)
 
--- Padding is no entry
+-- Padding is not an entry
 pub zero-at : (m k : ℕ) → _≡_ {A = ℕ} (getD (replicate m 0) k 0) 0
 zero-at zero k = refl
 zero-at (suc m) zero = refl

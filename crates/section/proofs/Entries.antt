@@ -43,7 +43,7 @@ use Rattle.section.proofs.Section.{bytes-take}
 pub walked-start : (s : List ℕ) → Walked s 0
 walked-start s = record { inside = omega arith; rest = sym (framing-end s) }
 
--- Behind a whole entry
+-- After a whole entry
 walked-on : {s : List ℕ} {at n : ℕ} → Walked s at → Next s at n → Walked s (at + 4 + n)
 walked-on w x = record { inside = x .inside; rest = w .rest ∙ x .ends }
 
@@ -55,7 +55,7 @@ section-from : (s : List ℕ) → length s ≤ limit → readSection s ≡ readF
 unfolding readSection readFrom
 section-from s h = rw (le-leb (length s) limit h, framing-start s)
 
--- Entities before those found after them
+-- Entities, followed by those found after them
 abbrev pub before : List Placed → Outcome ℕ (List Placed) → Outcome ℕ (List Placed)
 before es o = o >>= λ fs end. ok (es ++ fs) end
 
@@ -67,7 +67,7 @@ before-append : (es fs : List Placed) (o : Outcome ℕ (List Placed)) → before
 before-append es fs (ok gs e) = rw append-assoc
 before-append es fs (refuse n p) = refl
 
--- Entries go on from a boundary up to the padding
+-- Entries continue from a boundary up to the padding
 pub record Clear (s : List ℕ) (at end : ℕ) : Type 0 where
   pub parts : List Part
   pub frames : framingFrom s at ≡ ok parts end
@@ -79,8 +79,8 @@ clear-from s at w end q = go (framingFrom s at) refl (sym (w .rest) ∙ q)
     go (ok ps e) k w = let v : e ≡ end = cc in record { parts = ps; frames = k ∙ rw v }
     go (refuse n p) k w = let z : _≡_ {A = ℕ} 0 1 = cc in absurd (omega arith)
 
--- The entities from the entry at a boundary on: if its payload is read, they stand before those behind it; if it is refused, and
--- the framing is good, so is the section
+-- The entities from the entry at a boundary on: if its payload is read, its entities come before those that follow; if it is
+-- refused, and the framing is good, so is the section
 reads-on : (s : List ℕ) (at z : ℕ) (p : Part) → framingFrom s at ≡ partsBefore (p ∷ []) (framingFrom s z) → (es : List Placed) (m : ℕ) → readPayload s p ≡ ok es m → readFrom s at ≡ before es (readFrom s z)
 unfolding readFrom readPayloads
 reads-on s at z p q es m k = go (framingFrom s z) refl
@@ -105,7 +105,7 @@ reads-end s u at end h c q = let f = all-ok (framed-as s u at h) (c .frames) in 
         let m : numberOr0 s at ≡ length x = number-there s at (omega (arith, i .inside)) ∙ i .number in
         absurd (omega (arith, q, m, f .0, i .inside, entry-here s at (omega (arith, m, f .0)) (omega (arith, m, i .inside))))
 
--- Entities that arrive
+-- Entities that are read
 arriveEntities-more : (es : List Placed) (e : Placed) (st : ReadState) → arriveEntities (es ++ (e ∷ [])) st ≡ arriveAll (e .content) (seeks (e .at) (arriveEntities es st))
 arriveEntities-more [] e st = refl
 arriveEntities-more (f ∷ es) e st = arriveEntities-more es e (arriveAll (f .content) (seeks (f .at) st))
@@ -118,7 +118,7 @@ arriveEntities-length : (es : List Placed) (st : ReadState) → length (arriveEn
 arriveEntities-length [] st = refl
 arriveEntities-length (e ∷ es) st = arriveEntities-length es (arriveAll (e .content) (seeks (e .at) st)) ∙ arriveAll-length (e .content) (seeks (e .at) st)
 
--- The walk has come to a boundary
+-- The walk has reached a boundary
 pub record Come (s table : List ℕ) (at : ℕ) (g : Stage) : Type 0 where
   pub found : List Placed
   pub stands : g ≡ stage (seeks at (arriveEntities found (readState newCursor table))) (length found)
@@ -133,7 +133,7 @@ come-start s table h g e =
 pub come-length : (s table : List ℕ) (at : ℕ) (g : Stage) → Come s table at g → length (g .state .table) ≡ length table
 come-length s table at g h = ap (λ (x : Stage). length (x .state .table)) (h .stands) ∙ arriveEntities-length (h .found) (readState newCursor table)
 
--- Where an entry leads that ends at a boundary: to a refusal, or to that boundary
+-- The result of an entry that ends at a boundary: a refusal, or the walk reaches that boundary
 pub record Leads (s table : List ℕ) (end : ℕ) (g : Stage) : Type 0 where
   pub refuses : (g .state .cursor .refusal ≡ 0 → ⊥) → Walks s table end g
   pub goes : g .state .cursor .refusal ≡ 0 → Come s table end g
@@ -263,7 +263,7 @@ module _ (s table : List ℕ) (u : Bytes s) (small : length s ≤ limit) where
       unfolding pastEntry
       leads r e = rw (q, whole-here s at here .0, e, h .stands) (leads-entered at (h .found) (h .rest) (h .walked) (numberOr0 s at) (next-whole s u at here) (h .few))
 
-    -- Where no whole entry stands
+    -- Where there is no whole entry
     pub come-end : end ≤ at → Walks s table at g
     come-end l = record { walked = h .walked; kept = come-length s table at g h; reads = all-read }
       where
@@ -286,7 +286,7 @@ entities-fill (e ∷ es) st h =
     let i = entities-fill es (arriveAll (e .content) (seeks (e .at) st)) (omega (arith, f .rows, l)) in
     record { rows = omega (arith, i .rows, f .rows); front = i .front ∙ rw (f .front, append-assoc) }
 
--- Fitting or not, they are counted up to one more than the table has
+-- Whether they fit or not, they are counted up to one more than the table has
 entities-count : (es : List Placed) (st : ReadState) → min (st .cursor .rows + totalLeaves es) (wholeRows (st .table) + 1) ≤ arriveEntities es st .cursor .rows
 entities-count [] st = omega arith
 entities-count (e ∷ es) st =
@@ -302,7 +302,7 @@ answers table end g o (reads {es = es} {at = at} e) =
     (λ k. let f = entities-fill es st (omega arith) in (f .rows ∙ omega arith, f .front)) (λ k. omega (arith, entities-count es st))
 answers table end g o (stops h) = answered-refused (g .entities) (g .state) (λ w. h .1 (sym (h .0) ∙ w)) ∙ rw (h .0, h .2, h .3)
 
--- One entry, from what the code's calls answer: n is its length, b whether it is the sentinel
+-- One entry, from the results of the code's calls: n is its length, b whether it is the sentinel
 module _ (s : List ℕ) (g : Stage) (n : ℕ) (q : n ≡ numberOr0 s (g .state .cursor .at)) (b : Bool) (e : b ≡ same (drop (g .state .cursor .at + 4) (take (g .state .cursor .at + 4 + n) s)) sentinelBytes) where
   pub entry-sentinel : b ≡ true → (c : Cursor) → c ≡ seek (g .state .cursor .at + 4 + n) (g .state .cursor) → stage (readState c (g .state .table)) (g .entities) ≡ pastEntry s g
   unfolding pastEntry

@@ -16,7 +16,7 @@ use Rattle.layout.specs.Answers.{limit}
 use Rattle.layout.specs.Theorems.{Bytes}
 use Rattle.layout.proofs.Walk.{Fails, good, fails-bind, fails-need, fails-map, fails-refuse}
 use Rattle.layout.proofs.BadReads.{not-true, payload-bad, payload-refuses}
-use Rattle.layout.proofs.InBytes.{behind}
+use Rattle.layout.proofs.InBytes.{rest-after}
 use Rattle.bytes.specs.Bytes.{same}
 use Rattle.bytes.proofs.Compared.{same-sound}
 use Rattle.framing.specs.Framing.{framing}
@@ -42,7 +42,7 @@ item-bad s u a x r h e =
     not-sentinel : true ≡ false → ⊥
     not-sentinel w = let z : _≡_ {A = ℕ} 0 1 = cc in omega arith
 
--- The first bad payload of entries that begin at a place
+-- The first bad payload of entries, the first of which begins at a place
 record BadAmong (s : List ℕ) (at : ℕ) (pays : List (List ℕ)) (n p : ℕ) : Type 0 where
   before : List Item
   pay : List ℕ
@@ -73,8 +73,8 @@ unfolding readPayloads
 payloads-bad s u end at [] r f e = good
 payloads-bad s u end at (x ∷ pays) r f e =
     let g : drop at s ≡ four (length x) ++ (x ++ (framed pays ++ r)) = simp append-assoc at e in
-    let d : drop (at + 4) s ≡ x ++ (framed pays ++ r) = behind s at (four (length x)) _ g in
-    let d₂ : drop (at + 4 + length x) s ≡ framed pays ++ r = behind s (at + 4) x _ d in
+    let d : drop (at + 4) s ≡ x ++ (framed pays ++ r) = rest-after s at (four (length x)) _ g in
+    let d₂ : drop (at + 4 + length x) s ≡ framed pays ++ r = rest-after s (at + 4) x _ d in
     fails-bind (readPayload s (partAt at (length x))) _ (payload-sound s u (at + 4) x _ (f .0) (f .1) d)
     (fails-map (item-bad s u (at + 4) x _ (f .0) d) λ n p b. first-bad s at x pays n p b)
     λ xs m q.
@@ -119,7 +119,7 @@ section-bad s u =
       is = rw zero-add at (b .is);
     }))
 
--- And whenever it holds: of a payload
+-- And always under it: for a payload
 item-refuses : (s : List ℕ) (a : ℕ) (x r : List ℕ) (n p : ℕ) → 1 ≤ length x → drop a s ≡ x ++ r → (x ≡ sentinelBytes → ⊥) → BadPayload (take (a + length x) s) Entity a n p → readPayload s (record { begin = a; end = a + length x }) ≡ refuse n p
 unfolding readPayload readEntity
 item-refuses s a x r n p h e o b =
@@ -129,14 +129,14 @@ item-refuses s a x r n p h e o b =
 payloads-refuse : (s : List ℕ) (end at : ℕ) (is : List Item) (x : List ℕ) (ys : List (List ℕ)) (r : List ℕ) (n p : ℕ) → ProperItems is → 1 ≤ length x → drop at s ≡ entries is ++ (four (length x) ++ (x ++ r))
     → (x ≡ sentinelBytes → ⊥) → BadPayload (take (at + length (entries is) + 4 + length x) s) Entity (at + length (entries is) + 4) n p → readPayloads s end (partsOf at (map payload is ++ (x ∷ ys))) ≡ refuse n p
 unfolding readPayloads
-payloads-refuse s end at [] x ys r n p q h e o b = rw (item-refuses s (at + 4) x r n p h (behind s at (four (length x)) _ e) o (rw add-zero at b))
+payloads-refuse s end at [] x ys r n p q h e o b = rw (item-refuses s (at + 4) x r n p h (rest-after s at (four (length x)) _ e) o (rw add-zero at b))
 payloads-refuse s end at (i ∷ is) x ys r n p q h e o b =
     let y : List ℕ = payload i in
     let t : List ℕ = entries is ++ (four (length x) ++ (x ++ r)) in
     let g : drop at s ≡ four (length y) ++ (y ++ t) = simp append-assoc at e in
-    let d : drop (at + 4) s ≡ y ++ t = behind s at (four (length y)) _ g in
+    let d : drop (at + 4) s ≡ y ++ t = rest-after s at (four (length y)) _ g in
     let k : at + length (entries (i ∷ is)) ≡ at + 4 + length y + length (entries is) = omega (arith, length-append y (entries is)) in
-    rw (payload-complete s at i t (q .0) d, payloads-refuse s end (at + 4 + length y) is x ys r n p (q .1) h (behind s (at + 4) y t d) o (rw k at b))
+    rw (payload-complete s at i t (q .0) d, payloads-refuse s end (at + 4 + length y) is x ys r n p (q .1) h (rest-after s (at + 4) y t d) o (rw k at b))
 
 section-refuses : (s : List ℕ) → Bytes s → {n p : ℕ} → SectionRefusal s n p → readSection s ≡ refuse n p
 unfolding readSection

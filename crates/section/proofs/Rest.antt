@@ -37,7 +37,7 @@ padding-length s at m e =
     let z₀ : _≡_ {A = ℕ} (getD s at 0) 0 = rw add-zero at (z 0) in
     rw (z₀, z 1, z 2, z 3) (cond-same (enough s at 4))
 
--- The entry at a boundary: the first of the items, its payload, and the rest behind it
+-- The entry at a boundary: the first of the items, its payload, and the rest after it
 pub record First (s : List ℕ) (at size : ℕ) (is : List Item) : Type 0 where
   pub item : Item
   pub others : List Item
@@ -64,7 +64,7 @@ first-of s at h k m (i ∷ is) p e size l n =
       sized = refl;
       after = entries is ++ replicate m 0;
       there = a .payload;
-      rest = record { small = h; inside = a .inside; derivation = record { items = is; padding = m }; by = record { proper = p .1; derives = sym (a .behind) } };
+      rest = record { small = h; inside = a .inside; derivation = record { items = is; padding = m }; by = record { proper = p .1; derives = sym (a .after) } };
       left = refl;
     })
 

@@ -15,7 +15,7 @@ use Rattle.layout.specs.Answers.{limit}
 use Rattle.layout.specs.Theorems.{Bytes}
 use Rattle.layout.proofs.Walk.{All, given, refused, all-bind, all-need, all-ok, all-when}
 use Rattle.layout.proofs.BadReads.{not-true}
-use Rattle.layout.proofs.InBytes.{behind, read-complete, read-sound}
+use Rattle.layout.proofs.InBytes.{rest-after, read-complete, read-sound}
 use Rattle.framing.specs.Framing.{framing}
 use Rattle.framing.specs.Entries.{framed, Framable, sentinelBytes}
 use Rattle.framing.proofs.Framing.{partAt, partsOf, all-cond, framing-complete, framing-sound}
@@ -32,7 +32,7 @@ module _ {S A : Type 0} where
   all-map (given {a} {st} h) k = given (k a st h)
   all-map refused k = refused
 
--- A payload that stands at a place is what its part holds
+-- The part of a payload at a place has its bytes
 pub part-there : (s : List ℕ) (a : ℕ) (x r : List ℕ) → 1 ≤ length x → drop a s ≡ x ++ r → drop a (take (a + length x) s) ≡ x
 part-there s a x r h e =
     let k : a ≤ length s = omega (arith, ap length e, length-append x r, length-drop a s) in
@@ -93,9 +93,9 @@ unfolding readPayloads
 payloads-sound s u end at [] r f e = given (record { all = []; proper = tt; are = refl; found = refl })
 payloads-sound s u end at (x ∷ pays) r f e =
     let g : drop at s ≡ four (length x) ++ (x ++ (framed pays ++ r)) = simp append-assoc at e in
-    let d : drop (at + 4) s ≡ x ++ (framed pays ++ r) = behind s at (four (length x)) _ g in
+    let d : drop (at + 4) s ≡ x ++ (framed pays ++ r) = rest-after s at (four (length x)) _ g in
     all-bind (readPayload s (partAt at (length x))) _ (payload-sound s u (at + 4) x _ (f .0) (f .1) d) λ xs m p.
-    all-bind (readPayloads s end (partsOf (at + 4 + length x) pays)) _ (payloads-sound s u end (at + 4 + length x) pays r (f .2) (behind s (at + 4) x _ d)) λ ys e₂ q.
+    all-bind (readPayloads s end (partsOf (at + 4 + length x) pays)) _ (payloads-sound s u end (at + 4 + length x) pays r (f .2) (rest-after s (at + 4) x _ d)) λ ys e₂ q.
     let k : placed (at + 4 + length x) (q .all) ≡ placed (at + 4 + length (payload (p .item))) (q .all) = ap (λ (y : List ℕ). placed (at + 4 + length y) (q .all)) (p .is) in
     given (record { all = p .item ∷ q .all; proper = (p .proper, q .proper); are = rw (p .is, q .are); found = rw (p .found at refl, q .found, k) (placed-more at (p .item) (q .all)) })
 
@@ -105,8 +105,8 @@ payloads-complete s end at [] r p e = refl
 payloads-complete s end at (i ∷ is) r p e =
     let x : List ℕ = payload i in
     let g : drop at s ≡ four (length x) ++ (x ++ (entries is ++ r)) = simp append-assoc at e in
-    let d : drop (at + 4) s ≡ x ++ (entries is ++ r) = behind s at (four (length x)) _ g in
-    rw (payload-complete s at i _ (p .0) d, payloads-complete s end (at + 4 + length x) is r (p .1) (behind s (at + 4) x _ d), placed-more at i is)
+    let d : drop (at + 4) s ≡ x ++ (entries is ++ r) = rest-after s at (four (length x)) _ g in
+    rw (payload-complete s at i _ (p .0) d, payloads-complete s end (at + 4 + length x) is r (p .1) (rest-after s (at + 4) x _ d), placed-more at i is)
 
 pub entries-framed : (is : List Item) → entries is ≡ framed (map payload is)
 entries-framed [] = refl

@@ -1,4 +1,4 @@
--- Derivations of a section: document 01, "The nine entities". Nothing here is taken from the reader.
+-- Derivations of a section (docs/FORMAT.md, Derivations). Nothing here refers to the reader.
 use Prim.Native.Nat.{ℕ, _+_, _<_}
 use mathlib.Core.List.{List, [], _∷_, _++_}
 use lib.ListN.{length, replicate}
@@ -46,18 +46,19 @@ abbrev pub ProperItems : List Item → Type 0
 ProperItems [] = Unit {0}
 ProperItems (i ∷ is) = ProperItem i × ProperItems is
 
--- An entity where it stands: the place of its payload, and its leaves
+-- An entity with its place: where its payload begins, and its leaves
 pub record Placed : Type 0 where
   pub at : ℕ
   pub content : List Leaf
 
--- The entities among items whose first entry begins at a place. A payload begins behind the 4 bytes of its length; a sentinel is no entity
+-- The entities among items whose first entry begins at a place. A payload begins after the 4 bytes of its length; a sentinel is
+-- not an entity
 abbrev pub placed : ℕ → List Item → List Placed
 placed at [] = []
 placed at (sentinel ∷ is) = placed (at + 4 + length sentinelBytes) is
 placed at (entity v ∷ is) = record { at = at + 4; content = leaves Entity v } ∷ placed (at + 4 + length (bytes Entity v)) is
 
--- The number of the leaves of entities
+-- The total number of leaves of entities
 abbrev pub totalLeaves : List Placed → ℕ
 totalLeaves [] = 0
 totalLeaves (e ∷ es) = length (e .content) + totalLeaves es
@@ -75,23 +76,23 @@ givenOf es = record { entities = length es; leafCount = totalLeaves es; rows = r
 abbrev pub entitiesOf : Derivation → List Placed
 entitiesOf d = placed 0 (d .items)
 
--- The number of the sentinels among items
+-- The number of sentinels among items
 abbrev pub sentinels : List Item → ℕ
 sentinels [] = 0
 sentinels (sentinel ∷ is) = 1 + sentinels is
 sentinels (entity v ∷ is) = sentinels is
 
--- The bytes that a leaf takes
+-- The number of bytes that a leaf takes
 abbrev pub leafSize : Leaf → ℕ
 leafSize (plain srt n) = width srt
 leafSize (string t) = 4 + length t
 
--- The bytes that leaves take
+-- The number of bytes that leaves take
 abbrev pub leafSizes : List Leaf → ℕ
 leafSizes [] = 0
 leafSizes (x ∷ ls) = leafSize x + leafSizes ls
 
--- The bytes that the leaves of entities take
+-- The number of bytes that the leaves of entities take
 abbrev pub entitySizes : List Placed → ℕ
 entitySizes [] = 0
 entitySizes (e ∷ es) = leafSizes (e .content) + entitySizes es

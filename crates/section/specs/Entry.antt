@@ -1,4 +1,4 @@
--- One entry of a section: what it makes of a reading that stands before it.
+-- One entry of a section: its effect on the reading so far.
 use Prim.Native.Nat.{ℕ, _+_}
 use mathlib.Core.Bool.{cond, _&&_}
 use mathlib.Core.List.{List}
@@ -30,7 +30,7 @@ staged p table = stage (readState (p .cursor) table) (p .entities)
 abbrev pub seeks : (at : ℕ) → ReadState → ReadState
 seeks at st = readState (seek at (st .cursor)) (st .table)
 
--- What a payload makes of a stage: the sentinel is passed over, everything else is read as an entity
+-- The effect of a payload on a stage: the sentinel is skipped, anything else is read as an entity
 abbrev pub entered : List ℕ → (begin end : ℕ) → Stage → Stage
 entered s begin end g =
     let r = run Entity (take end s) (seeks begin (g .state)) in
@@ -38,13 +38,14 @@ entered s begin end g =
     (stage (seeks end (g .state)) (g .entities))
     (stage (readState (finishedAt end (r .cursor)) (r .table)) (g .entities + 1))
 
--- What the entry where a stage stands makes of it
+-- The effect of the entry at a stage's position
 unfoldable pub pastEntry : List ℕ → Stage → Stage
 pastEntry s g =
     let at = g .state .cursor .at in
     entered s (at + 4) (at + 4 + numberOr0 s at) g
 
--- One entry from any stage. It stays as it is once it is refused, where no whole entry stands, and with too many bytes or entities
+-- One entry from any stage. The stage is unchanged if it is refused, if there is no whole entry, or with too many bytes or
+-- entities
 unfoldable pub readEntry : List ℕ → Stage → Stage
 readEntry s g =
     let c = g .state .cursor in

@@ -1,5 +1,4 @@
--- The refusals 1 to 12 of a section, each under its condition: document 01, "When intake says no". Nothing here is taken from
--- the reader.
+-- The refusals 1 to 12 of a section, each under its condition (docs/FORMAT.md, Refusals). Nothing here refers to the reader.
 use Prim.Native.Nat.{ℕ, _+_, _≤_}
 use mathlib.Core.List.{List, _∷_, _++_}
 use mathlib.Core.Path.{_≡_}
@@ -11,7 +10,8 @@ use Rattle.framing.specs.Entries.{framed, Framable, sentinelBytes}
 use Rattle.framing.specs.Refusals.{FramingRefusal}
 use Rattle.section.specs.Derivation.{Item, entries, ProperItems}
 
--- The first bad payload of a section whose framing is right: the items before it, itself, and the payloads and the padding after it
+-- The first bad payload of a section with a good framing: the items before it, the payload, and the payloads and padding after
+-- it
 pub record BadEntry (s : List ℕ) (n p : ℕ) : Type 0 where
   pub before : List Item
   pub pay : List ℕ

@@ -1,4 +1,4 @@
--- The rest of a derived section, from a boundary on: what a walk over its entries goes by.
+-- The rest of a derived section, from a boundary on: the invariant of a walk over its entries.
 use Prim.Native.Nat.{ℕ, _≤_}
 use mathlib.Core.List.{List}
 use lib.ListN.{length, drop}
@@ -6,7 +6,7 @@ use Rattle.layout.specs.Answers.{limit}
 use Rattle.section.specs.Derivation.{Derivation}
 use Rattle.section.specs.Demand3.{DerivedBy}
 
--- There are not too many bytes, and those from a boundary on are derived
+-- There are at most `limit` bytes, and those from a boundary on are derived
 pub record Rest (s : List ℕ) (at : ℕ) : Type 0 where
   pub small : length s ≤ limit
   pub inside : at ≤ length s

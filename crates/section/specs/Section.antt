@@ -1,4 +1,4 @@
--- The reading of a section, by document 01's refusals 1 to 13 in their order.
+-- The reading of a section, with the refusals 1 to 13 in their order (docs/FORMAT.md, Refusals).
 use Prim.Native.Nat.{ℕ}
 use mathlib.Core.Bool.{cond}
 use mathlib.Core.List.{List, [], _∷_, _++_}
@@ -18,11 +18,11 @@ use Rattle.section.specs.Derivation.{Placed, givenOf}
 abbrev pub ended : Part → List Leaf → (end : ℕ) → Outcome ℕ (List Placed)
 ended p ls end = need (leb (p .end) end) 12 end (ok (record { at = p .begin; content = ls } ∷ []) end)
 
--- One entity, by 5 to 11, then 12
+-- One entity, with 5 to 11, then 12
 unfoldable pub readEntity : List ℕ → Part → Outcome ℕ (List Placed)
 readEntity s p = read Entity (take (p .end) s) (p .begin) >>= λ ls end. ended p ls end
 
--- A payload: the sentinel yields nothing, every other one must be one entity
+-- A payload: the sentinel yields nothing, any other must be one entity
 unfoldable pub readPayload : List ℕ → Part → Outcome ℕ (List Placed)
 readPayload s p = cond (same (drop (p .begin) (take (p .end) s)) sentinelBytes) (ok [] (p .end)) (readEntity s p)
 
@@ -41,6 +41,6 @@ readSection s = need (leb (length s) limit) 1 0 (framing s >>= λ parts end. rea
 abbrev pub sectionGiven : List ℕ → Outcome ℕ Given
 sectionGiven s = readSection s >>= λ es end. ok (givenOf es) end
 
--- The reading of a section through a lent table; 13
+-- The reading of a section through a lent table, with 13
 unfoldable pub reading : List ℕ → List ℕ → Result
 reading s table = throughTable (sectionGiven s) table

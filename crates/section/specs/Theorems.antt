@@ -1,4 +1,4 @@
--- What is proved of the definitions, as statements. Each comment names the proof, in proofs/.
+-- The theorems about the definitions, as statements. Each comment names the proof, in proofs/.
 use Prim.Native.Nat.{ℕ, _+_, _*_, _≤_}
 use mathlib.Core.List.{List, _∷_, _++_, map}
 use mathlib.Core.Logic.{_↔_}
@@ -30,7 +30,8 @@ Refusal-unique = (s : List ℕ) → Bytes s → (n p m q : ℕ) → SectionRefus
 abbrev pub Derivation-unique : Type 0
 Derivation-unique = (s : List ℕ) (d e : Derivation) → DerivedBy s d → DerivedBy s e → d ≡ e
 
--- 4 for each entity and its leaves' bytes, 13 for each sentinel, and the padding make the section's length: `byte-sum` in Derivation.antt
+-- 4 for each entity and its leaves' bytes, 13 for each sentinel, and the padding add up to the section's length: `byte-sum` in
+-- Derivation.antt
 abbrev pub Byte-sum : Type 0
 Byte-sum =
     (d : Derivation)
@@ -44,7 +45,7 @@ Rows-bound = (d : Derivation) → totalLeaves (entitiesOf d) ≤ length (derive 
 abbrev pub Reading-meets : Type 0
 Reading-meets = (s : List ℕ) → Bytes s → (table : List ℕ) → Demand3 s table (reading s table)
 
--- And nothing else does: `reading-only` in Demand3.antt
+-- And no other result does: `reading-only` in Demand3.antt
 abbrev pub Reading-only : Type 0
 Reading-only = (s : List ℕ) → Bytes s → (table : List ℕ) (r : Result) → Demand3 s table r → r ≡ reading s table
 
@@ -52,7 +53,7 @@ Reading-only = (s : List ℕ) → Bytes s → (table : List ℕ) (r : Result) �
 abbrev pub Reading-told : Type 0
 Reading-told = (s : List ℕ) → Bytes s → (table : List ℕ) → Told (reading s table .answer)
 
--- What stood in the table before plays no part, but for its length: `table-free` in Demand3.antt
+-- Of the table before the reading only the length matters: `table-free` in Demand3.antt
 abbrev pub Table-free : Type 0
 Table-free = (s table other : List ℕ) → length table ≡ length other → reading s table ≡ reading s other
 
@@ -62,11 +63,12 @@ Padding-free =
     (s : List ℕ) (d : Derivation) → Good s d → (k : ℕ) → length (s ++ replicate k 0) ≤ limit
     → (table : List ℕ) → reading (s ++ replicate k 0) table ≡ reading s table
 
--- An entity that stands so many bytes further on
+-- An entity moved on by n bytes
 abbrev pub movedBy : ℕ → Placed → Placed
 movedBy n e = record { at = n + e .at; content = e .content }
 
--- A sentinel is no entity: those before it stay as they are, and those after it move on by its 13 bytes: `sentinel-free` in Derivation.antt
+-- A sentinel is not an entity: those before it are unchanged, and those after it move on by its 13 bytes: `sentinel-free` in
+-- Derivation.antt
 abbrev pub Sentinel-free : Type 0
 Sentinel-free =
     (before after : List Item)

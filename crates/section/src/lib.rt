@@ -15,20 +15,20 @@ ghost use Rattle.section.specs.Demand3.{Demand3};
 ghost use Rattle.section.specs.Entry.{staged, pastEntry, readEntry};
 ghost use Rattle.section.specs.Private.{Walks};
 
-// What is read so far: where the reading stands, and the entities.
+// The reading so far: the cursor, and the number of entities.
 pub struct Progress {
     pub cursor: Cursor,
     pub entities: usize,
 }
 
-// What is read, and the boundary up to which the framing is known to be good.
+// The reading so far, and the boundary up to which the framing is known to be good.
 struct Walk {
     progress: Progress,
     at: usize,
 }
 
-// One entry, where the cursor stands: the sentinel, which yields nothing, or an entity. Nothing is read after a refusal, where no
-// whole entry stands, of too many bytes, and after too many entities.
+// One entry, at the cursor: the sentinel, which yields nothing, or an entity. Nothing is read after a refusal, if there is no
+// whole entry, if there are too many bytes, or after too many entities.
 pub fn read_entry(p: Progress, s: &[u8], t: &mut [u32]) -> Progress
     ensures { λ r. ⌜ staged r (now (t .exit)) ≡ readEntry (now (s .entry)) (staged p (now (t .entry))) ⌝ }
 {
@@ -48,7 +48,7 @@ pub fn read_entry(p: Progress, s: &[u8], t: &mut [u32]) -> Progress
     read_whole_entry(p, s, t)
 }
 
-// The same where a whole entry stands.
+// The same, if there is a whole entry.
 fn read_whole_entry(p: Progress, s: &[u8], t: &mut [u32]) -> Progress
     requires { ⌜ p .cursor .at + 4 + numberOr0 (now s) (p .cursor .at) ≤ length (now s) ⌝ ∗ ⌜ length (now s) ≤ limit ⌝ ∗ ⌜ p .entities ≤ limit ⌝ ∗ ⌜ Bytes (now s) ⌝ }
     ensures { λ r. ⌜ staged r (now (t .exit)) ≡ pastEntry (now (s .entry)) (staged p (now (t .entry))) ⌝ }
@@ -70,7 +70,7 @@ fn read_whole_entry(p: Progress, s: &[u8], t: &mut [u32]) -> Progress
     }
 }
 
-// Entry after entry, as long as whole ones stand there, or to the first refusal. The framing behind it is not looked at yet.
+// Entry after entry, as long as there are whole ones, or up to the first refusal. The framing after that is not checked yet.
 fn read_entries(s: &[u8], t: &mut [u32]) -> Walk
     requires { ⌜ length (now s) ≤ limit ⌝ ∗ ⌜ Bytes (now s) ⌝ }
     ensures { λ r. ⌜ Walks (now (s .entry)) (now (t .entry)) (r .at) (staged (r .progress) (now (t .exit))) ⌝ }
@@ -97,9 +97,9 @@ fn read_entries(s: &[u8], t: &mut [u32]) -> Walk
 }
 
 // The whole reading. On acceptance the table has the rows, then only 0; after a refusal it is all 0. The format has the whole
-// framing checked before any payload is read. Here, in one pass, the entries are read as they are found, and the framing behind
-// them is looked at afterwards: if it is refused, that is the answer, whatever the entries came to. The answer is proved to be
-// the same.
+// framing checked before any payload is read. Here, in one pass, the entries are read as they are found, and the framing after
+// them is checked afterwards: if it is refused, that is the answer, whatever the entries gave. The answer is proved to be the
+// same.
 pub fn decode_entities(section: &[u8], table: &mut [u32]) -> Answer
     ensures { λ r. ⌜ resultOf r (now (table .exit)) ≡ reading (now (section .entry)) (now (table .entry)) ⌝ }
     ensures { λ r. ⌜ Demand3 (now (section .entry)) (now (table .entry)) (resultOf r (now (table .exit))) ⌝ }

@@ -16,7 +16,7 @@ use Rattle.layout.specs.Reading.{Outcome, ok, refuse, _>>=_, need, read}
 use Rattle.layout.specs.Answers.{limit}
 use Rattle.layout.specs.Theorems.{Bytes}
 use Rattle.layout.proofs.Equations.{read-check}
-use Rattle.layout.proofs.InBytes.{behind, read-sound}
+use Rattle.layout.proofs.InBytes.{rest-after, read-sound}
 use Rattle.leaf.specs.declared.Cursor.{Cursor}
 use Rattle.leaf.specs.State.{ReadState, readState, newCursor, seek}
 use Rattle.leaf.specs.Run.{run}
@@ -32,7 +32,7 @@ use Rattle.sql_text.specs.SqlText.{TextMapping, SqlText, in-section, in-
 use Rattle.sql_text.specs.Theorems.{As-part, Filled-part}
 use Rattle.sql_text.specs.Private.{outcomeOf, noText, sizedFor, Within}
 
--- What the code finds is right
+-- What the code finds is correct
 abbrev pub Right : (s : List ℕ) (at size : ℕ) → Found → Type 0
 Right s at size r = (outcomeOf r ≡ sqlText s at size) × Within (length s) size r
 
@@ -71,7 +71,7 @@ module _ (s : List ℕ) (at size : ℕ) where
       go true h = (refl, w (eqb-true size numericSize h))
       go false h = (refl, tt)
 
--- Bytes that stand at a place, of which n is the first
+-- The bytes at a place, the first of which is n
 standing : (s b : List ℕ) (at end n : ℕ) → drop at s ≡ (n ∷ b) ++ drop end s → end ≡ at + length (n ∷ b)
     → (getD s at 0 ≡ n) × (at + 1 ≤ length s) × (end ≤ length s)
 standing s b at end n e k =
@@ -180,7 +180,7 @@ module _ (s : List ℕ) (at size : ℕ) (small : length s ≤ limit) (c : Cursor
         let (v₁, v₂, v₃, v₄) = values at ls x₁ x₂ x₃ x₄ r k m in
         sized-right s at size (Numeric′ p q) (good-numeric s at size small ls end i (first s u at ls end i ∙ h) p q (hp ∙ rw (v₁, v₂)) (hq ∙ rw (v₃, v₄))) (λ x. x)
 
--- A text that stands in the section, as an answer
+-- A text in the section, as an answer
 pub stored-answer : (start len : ℕ) (o : Outcome ℕ SqlText) → ok (in-section start) (start + len) ≡ o → record { number = 0; place = 0; buffered = false; begin = start; len = len } ≡ sqlAnswer o
 stored-answer start len o e =
     let l : len ≡ start + len - start = omega arith in
@@ -204,7 +204,7 @@ as-part s small u at t end e buffer =
     let (v, p, q, (a, b)) = read-sound SqlMapping s u at ls end e in
     let k : bytesOf (leaves SqlMapping v) ≡ (1 ∷ four (length t)) ++ t = rw (q, append-nil t) in
     let l : end - (at + 5) ≡ length t = omega (arith, b, ap length k) in
-    let d : drop (at + 5) s ≡ t ++ drop end s = behind s at (1 ∷ four (length t)) (t ++ drop end s) (a ∙ rw k) in
+    let d : drop (at + 5) s ≡ t ++ drop end s = rest-after s at (1 ∷ four (length t)) (t ++ drop end s) (a ∙ rw k) in
     rw (o, l, d) (take-append-seam t (drop end s))
 
 -- Where a Numeric text ends in the buffer

@@ -1,4 +1,4 @@
--- What only the private functions of the crate promise one another. No public contract cites anything here.
+-- Definitions for the contracts of private functions; no public contract cites them.
 use Prim.Native.Nat.{ℕ, _+_, _≤_}
 use mathlib.Core.Bool.{cond}
 use mathlib.Core.Path.{_≡_}
@@ -16,7 +16,7 @@ outcomeOf (Refused refusal) = refuse (refusal .number) (refusal .place)
 outcomeOf (Stored start len) = ok (in-section start) (start + len)
 outcomeOf (Numeric p q) = ok (in-buffer (numericText (optionOf p) (optionOf q))) (length (numericText (optionOf p) (optionOf q)))
 
--- A refusal, where an SQL text was looked for
+-- A refusal instead of an SQL text
 abbrev pub noText : (number place : ℕ) → Found
 noText number place = Refused (record { number = number; place = place })
 
@@ -24,7 +24,7 @@ noText number place = Refused (record { number = number; place = place })
 abbrev pub sizedFor : ℕ → Found → Found
 sizedFor size found = cond (eqb size numericSize) found (noText 17 0)
 
--- What was found lies within bytes and buffer: a stored text ends in the section; a buffer for a Numeric text has its size
+-- What was found is within the bytes or the buffer: a stored text ends in the section; a buffer for a Numeric text has its size
 abbrev pub Within : (section size : ℕ) → Found → Type 0
 Within section size (Refused refusal) = Unit {0}
 Within section size (Stored start len) = start + len ≤ section

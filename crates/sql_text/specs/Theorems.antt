@@ -1,4 +1,4 @@
--- What is proved of the definitions, as statements. Each comment names the proof, in proofs/.
+-- The theorems about the definitions, as statements. Each comment names the proof, in proofs/.
 use Prim.Native.Nat.{ℕ, _≤_}
 use mathlib.Core.List.{List, [], _∷_}
 use mathlib.Core.Path.{_≡_}
@@ -17,7 +17,7 @@ As-part =
     (s : List ℕ) → length s ≤ limit → Bytes s → (at : ℕ) (t : List ℕ) (end : ℕ) → read SqlMapping s at ≡ ok (plain Tag 1 ∷ string t ∷ []) end
     → (buffer : List ℕ) → sqlPartOf s buffer (sqlText s at numericSize) ≡ t
 
--- Of a buffer that was filled, the part is the Numeric text: `filled-part` in SqlText.antt
+-- The part of a filled buffer is the Numeric text: `filled-part` in SqlText.antt
 abbrev pub Filled-part : Type 0
 Filled-part =
     (s : List ℕ) (at size : ℕ) (t : List ℕ) (end : ℕ) → sqlText s at size ≡ ok (in-buffer t) end

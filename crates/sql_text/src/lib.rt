@@ -1,4 +1,4 @@
-// The SQL text of a mapping: a part of the caller's bytes, or written into a lent buffer.
+// The SQL text of a mapping: a part of the caller's bytes, or written to a lent buffer.
 use layout::LIMIT;
 use layout::ROW_WIDTH;
 use leaf::Cursor;
@@ -22,19 +22,18 @@ const HAS_PRECISION: usize = 1;
 
 const HAS_SCALE: usize = 3;
 
-// The bytes of an As mapping before its text: its tag and the text's length.
+// The size of an As mapping before its text: its tag and the text's length.
 const AS_HEAD: usize = 5;
 
-// Where the SQL text of a mapping stands: in the section, from a start on; at the start of the buffer; or nowhere, with a
-// refusal.
+// Where the SQL text of a mapping is: in the section, from a start on; at the start of the buffer; or nowhere, with a refusal.
 pub enum SqlPlace {
     Section { start: usize, len: usize },
     Buffer { len: usize },
     Refused(Refusal),
 }
 
-// Fills the start of a lent buffer with the SQL text of the mapping at an offset, if the mapping is Numeric, and says where the
-// SQL text stands.
+// Fills the start of a lent buffer with the SQL text of the mapping at an offset, if the mapping is Numeric, and answers where
+// the SQL text is.
 pub fn place_sql_text(section: &[u8], offset: u32, buffer: &mut [u8]) -> SqlPlace
     ensures { λ r. ⌜ sqlAnswerOf r ≡ sqlAnswer (sqlText (now (section .entry)) offset (length (now (buffer .entry)))) ⌝ }
     ensures { λ r. ⌜ now (buffer .exit) ≡ filled (now (buffer .entry)) (sqlText (now (section .entry)) offset (length (now (buffer .entry)))) ⌝ }
@@ -53,7 +52,7 @@ pub fn place_sql_text(section: &[u8], offset: u32, buffer: &mut [u8]) -> SqlPlac
     }
 }
 
-// The same, with the refusal's number and place alone.
+// The same, with only the refusal's number and place.
 pub fn fill_sql_text(
     section: &[u8],
     offset: u32,
@@ -111,15 +110,15 @@ pub fn sql_text<'a>(
     }
 }
 
-// What is found where an SQL text is looked for: a refusal; a text stored from a start on, of some length; or a Numeric mapping's
-// precision and scale.
+// What is found for an SQL text: a refusal; a text stored from a start on, of some length; or a Numeric mapping's precision and
+// scale.
 enum Found {
     Refused(Refusal),
     Stored(usize, usize),
     Numeric(OptionU32, OptionU32),
 }
 
-// The mapping at an offset, read with a table of its own, for a buffer of some size.
+// The mapping at an offset, read with a table of its own, for a buffer of a given size.
 fn find_sql_text(section: &[u8], offset: u32, size: usize) -> Found
     ensures { λ r. ⌜ (outcomeOf r ≡ sqlText (now (section .entry)) offset size) × Within (length (now (section .entry))) size r ⌝ }
 {
@@ -157,7 +156,7 @@ fn sized(size: usize, found: Found) -> Found
     found
 }
 
-// A refusal, where an SQL text was looked for.
+// A refusal instead of an SQL text.
 fn not_found(number: u32, place: usize) -> Found
     ensures { λ r. ⌜ r ≡ noText number place ⌝ }
 {
@@ -171,7 +170,7 @@ fn cursor_at(at: usize) -> Cursor
     Cursor::new().seek(at)
 }
 
-// The number in the row behind a flag's, if the flag is 1.
+// The number in the row after a flag's row, if the flag is 1.
 fn option_in(t: &[u32], row: usize) -> OptionU32
     requires { ⌜ rowWidth * (row + 2) ≤ length (now t) ⌝ }
     ensures { λ r. ⌜ optionOf r ≡ numberIf (valueAt (now (t .entry)) row) (valueAt (now (t .entry)) (row + 1)) ⌝ }

@@ -1,4 +1,4 @@
--- The rows of a table, and its clearing.
+-- The rows of a table, and clearing it.
 use Prim.Native.Nat.{ℕ, _-_}
 use mathlib.Core.Bool.{cond}
 use mathlib.Core.List.{List, _++_}
@@ -8,7 +8,7 @@ use Rattle.layout.specs.Written.{sortAt, offsetAt, valueAt}
 use Rattle.layout.specs.Answers.{wholeRows}
 use Rattle.table.specs.declared.Row.{Row}
 
--- The row at an index, three 0 where the table has no such row
+-- The row at an index; three times 0 if the table has no such row
 unfoldable pub rowOf : List ℕ → (index : ℕ) → Row
 rowOf table i =
     cond (ltb i (wholeRows table)) (record { sort = sortAt table i; offset = offsetAt table i; value = valueAt table i })

@@ -1,4 +1,4 @@
-// The lent table: its rows, its clearing, and what is answered beside it.
+// The lent table: its rows, clearing it, and the answers that come with it.
 use layout::ROW_WIDTH;
 ghost use mathlib.Core.Path.{_≡_};
 ghost use Rattle.layout.specs.Answers.{refusal};
@@ -12,19 +12,19 @@ pub struct Row {
     pub value: u32,
 }
 
-// A refusal: its number and its place.
+// A refusal: its number and place.
 pub struct Refusal {
     pub number: u32,
     pub place: usize,
 }
 
-// What a reading answers: the numbers of entities and of rows, or a refusal.
+// The answer of a reading: the numbers of entities and rows, or a refusal.
 pub enum Answer {
     Accepted { entities: usize, rows: usize },
     Refused(Refusal),
 }
 
-// The row at an index; three 0 where the table has no such row.
+// The row at an index; three times 0 if the table has no such row.
 pub fn row_at(table: &[u32], index: usize) -> Row
     ensures { λ r. ⌜ r ≡ rowOf (now (table .entry)) index ⌝ }
 {
@@ -45,7 +45,7 @@ pub fn row_at(table: &[u32], index: usize) -> Row
     }
 }
 
-// The table from an index on becomes 0.
+// Sets the table to 0 from an index on.
 pub fn clear_from(table: &mut [u32], from: usize)
     ensures { λ r. ⌜ now (table .exit) ≡ cleared (now (table .entry)) from ⌝ }
 {
@@ -56,7 +56,7 @@ pub fn clear_from(table: &mut [u32], from: usize)
     }
 }
 
-// A refusal: the table is all 0.
+// A refusal: the table is set to 0.
 pub fn refuse(table: &mut [u32], number: u32, place: usize) -> Answer
     ensures { λ r. ⌜ resultOf r (now (table .exit)) ≡ refusal number place (now (table .entry)) ⌝ }
 {

@@ -1,4 +1,4 @@
--- The tally of whole-section readings: document 01, "Added to the crate".
+-- The tally of whole-section readings (docs/FORMAT.md, The tally).
 use Prim.Native.Nat.{ℕ, _+_}
 use mathlib.Core.Bool.{cond}
 use lib.Dec.{ltb}
@@ -9,7 +9,7 @@ use Rattle.tally.specs.declared.Tally.{Tally}
 abbrev pub most : ℕ
 most = 4294967295
 
--- A count with one more, unless it has stopped
+-- A count increased by one, unless it has stopped
 abbrev pub oneMore : ℕ → ℕ
 oneMore n = cond (ltb n most) (n + 1) most
 
@@ -17,7 +17,7 @@ oneMore n = cond (ltb n most) (n + 1) most
 abbrev pub noReadings : Tally
 noReadings = record { accepted = 0; refused = 0 }
 
--- A tally with one more answer, which counts as accepted or as refused
+-- A tally with one more answer, counted as accepted or refused
 abbrev pub tallied : Tally → Answer → Tally
 tallied t a =
     cond (a .accepts)

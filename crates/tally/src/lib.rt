@@ -52,7 +52,7 @@ impl Tally {
     }
 }
 
-// A section read as by `section::decode_entities`, and the tally with the answer in it.
+// Reads a section like `section::decode_entities`, and adds the answer to the tally.
 pub fn decode_entities_tallied(section: &[u8], table: &mut [u32], tally: Tally) -> Tallied
     ensures { λ r. ⌜ resultOf (r .answer) (now (table .exit)) ≡ reading (now (section .entry)) (now (table .entry)) ⌝ }
     ensures { λ r. ⌜ Demand3 (now (section .entry)) (now (table .entry)) (resultOf (r .answer) (now (table .exit))) ⌝ }
@@ -65,7 +65,7 @@ pub fn decode_entities_tallied(section: &[u8], table: &mut [u32], tally: Tally) 
     }
 }
 
-// A count with one more, unless it has stopped.
+// A count increased by one, unless it has stopped.
 fn one_more(count: u32) -> u32
     ensures { λ r. ⌜ r ≡ oneMore count ⌝ }
 {

@@ -1,4 +1,4 @@
--- ASCII in a text: parts put together, and the walk over them.
+-- ASCII in a text: joining parts, and walking over them.
 use Prim.Native.Nat.{ℕ, zero, suc, _+_, _-_, _≤_, _<_, zero-le}
 use native.Mathlib.Omega.{arith}
 use native.Mathlib.Nat.{add-zero}

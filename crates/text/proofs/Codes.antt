@@ -1,4 +1,4 @@
--- The codes of the states, and one turn of the walk's loop.
+-- The codes of the states, and one iteration of the walk's loop.
 use Prim.Native.Nat.{ℕ, _+_, _<_, _%_, _/_, _^_}
 use native.Mathlib.Numerals.{add-one}
 use mathlib.Core.Bool.{true}
@@ -16,7 +16,7 @@ use Rattle.text.proofs.Exact.{wanted-append}
 abbrev pub numbered : ℕ → State
 numbered n = getD (start ∷ tail-1 ∷ tail-2 ∷ tail-3 ∷ after-E0 ∷ after-ED ∷ after-F0 ∷ after-F4 ∷ failed ∷ []) n failed
 
--- A code is six times the state's number, fits into six bits, and is 0 for start alone
+-- A code is six times the state's number, fits in six bits, and is 0 only for start
 codes : (q : State) → (numbered (code q / 6) ≡ q) × (ltb (code q / 6) 9 ≡ true) × (code q % 64 ≡ code q) × (eqb (code q) 0 ≡ accepting q)
 codes start = (refl, refl, refl, refl)
 codes tail-1 = (refl, refl, refl, refl)
@@ -43,11 +43,11 @@ code-accepting q = codes q .3
 pub code-injective : (p q : State) → code p ≡ code q → p ≡ q
 code-injective p q e = sym (numbered-code p) ∙ ap (λ (n : ℕ). numbered (n / 6)) e ∙ numbered-code q
 
--- The walk over one byte more
+-- The walk over one more byte
 pub run-snoc : (p : State) (s : List ℕ) (i : ℕ) → i < length s → wantedAfter p (take (i + 1) s) ≡ step (wantedAfter p (take i s)) (getD s i 0)
 run-snoc p s i h = rw (add-one, take-suc s i 0, wanted-append)
 
--- One turn: the row of the byte's class, shifted to the place of the state, begins with the next state
+-- One iteration: the row of the byte's class, shifted to the place of the state, begins with the next state
 pub turn : {classes rows : List ℕ} → Encodes classes rows → (s : List ℕ) (i x : ℕ) (p : State) → i < length s → getD s i 0 < 256
     → x % 64 ≡ code (wantedAfter p (take i s))
     → getD rows (getD classes (getD s i 0) 0) 0 / 2 ^ (x % 64) % 64 ≡ code (wantedAfter p (take (i + 1) s))

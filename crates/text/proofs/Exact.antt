@@ -1,4 +1,4 @@
--- The automaton decides RFC 3629's grammar, and a walk may be made in parts.
+-- The automaton decides RFC 3629's grammar, and a walk may be done in parts.
 use Prim.Native.Nat.{ℕ, suc, _≤_, _<_}
 use native.Mathlib.Omega.{arith}
 use mathlib.Core.Bool.{Bool, true, false, _&&_, and-eq-true-iff, and-false, false≢true}
@@ -40,7 +40,7 @@ abbrev ascending : ℕ → List Transition → Bool
 ascending n [] = true
 ascending n (lo to hi ⇒ q ∷ xs) = leb n lo && (leb lo hi && ascending (suc hi) xs)
 
--- Of ascending ranges the one that has the byte is followed, and the byte is not below n
+-- Of ascending ranges, the one that contains the byte is followed, and the byte is at least n
 taken : (n b : ℕ) {lo hi : ℕ} {q : State} {xs : List Transition} → ascending n xs ≡ true → Among (lo to hi ⇒ q) xs → In (lo to hi) b → (follow xs b ≡ q) × (n ≤ b)
 taken n b {lo} {hi} {q} up (here {xs = xs}) i =
     let low = and-eq-true-iff (leb n lo) (leb lo hi && ascending (suc hi) xs) .0 up .0 in
@@ -70,7 +70,7 @@ stepped q b {r = lo to hi} m i = taken 0 b (transitions-ascend q) m i .0
 pub ascii-step : (b : ℕ) → b < 128 → step start b ≡ start
 ascii-step b h = stepped start b here (omega arith)
 
--- Transitions over the ranges, one after the other, from a state to start
+-- Transitions over the ranges in order, from a state to start
 data Route : State → List Range → Type 0 where
   end : Route start []
   by : {q : State} (p : State) {r : Range} {rs : List Range} → Among (r ⇒ p) (transitions q) → Route p rs → Route q (r ∷ rs)
@@ -103,9 +103,9 @@ chars-run : {l : List ℕ} → Utf8 l → wantedAfter start l ≡ start
 chars-run none = refl
 chars-run (more {c = c} {l = l} h r) = wanted-append start c l ∙ ap (λ (q : State). wantedAfter q l) (char-runs h) ∙ chars-run r
 
--- The second half: what takes the automaton to start is what the state before it wanted
+-- The second half: what takes the automaton from a state to start is what that state wants
 
--- A byte of each range, and then characters
+-- A byte of each range, then characters
 data Rest : List Range → List ℕ → Type 0 where
   chars : {l : List ℕ} → Utf8 l → Rest [] l
   next : {r : Range} {rs : List Range} {b : ℕ} {l : List ℕ} → In r b → Rest rs l → Rest (r ∷ rs) (b ∷ l)
@@ -125,14 +125,14 @@ Wants after-F0 l = Rest (0x90 to 0xBF ∷ tail ∷ tail ∷ []) l
 Wants after-F4 l = Rest (0x80 to 0x8F ∷ tail ∷ tail ∷ []) l
 Wants failed l = ⊥
 
--- The bytes of the ranges apart from the characters after them
+-- The bytes of the ranges, split from the characters after them
 parted : {rs : List Range} {l : List ℕ} → Rest rs l → (c : List ℕ) × (m : List ℕ) × Sequence rs c × Utf8 m × (c ++ m ≡ l)
 parted (chars {l = l} u) = ([], l, done, u, refl)
 parted (next {b = b} i w) =
     let p = parted w in
     (b ∷ p .0, p .1, byte i (p .2), p .3, ap (λ (x : List ℕ). b ∷ x) (p .4))
 
--- A first byte, and the rest of its character after it
+-- A first byte, then the rest of its character
 char : (b : ℕ) {rs : List Range} {l : List ℕ} → ((c : List ℕ) → Sequence rs c → Char (b ∷ c)) → Rest rs l → Rest [] (b ∷ l)
 char b k w =
     let p = parted w in
@@ -151,7 +151,7 @@ followed (r ⇒ q ∷ xs) b l P f w = go (within r b) refl (followed xs b l P (f
     go true e g w = f .0 (found r b e) w
     go false e g w = g w
 
--- A byte, and what is wanted after it, are what was wanted before it
+-- A byte, followed by what the next state wants, is what the state before it wants
 before : (q : State) (b : ℕ) (l : List ℕ) → Each b l (Wants q (b ∷ l)) (transitions q)
 before start b l = (
   λ i. char b (λ c bs. utf8-1 (byte i bs)),
@@ -212,6 +212,6 @@ wanted (b ∷ l) q e = back q b l (wanted l (step q b) e)
 pub utf8-exact : Utf8-exact
 utf8-exact l = (λ e. rest-utf8 (wanted l start e), λ u. ap accepting (chars-run u))
 
--- What answers by the test answers by the grammar
+-- An answer by the test is an answer by the grammar
 pub both : (l : List ℕ) {b : Bool} → b ≡ utf8 l → (b ≡ utf8 l) × ((b ≡ true) ↔ Utf8 l)
 both l e = (e, (λ h. utf8-exact l .0 (sym e ∙ h), λ h. e ∙ utf8-exact l .1 h))

@@ -1,4 +1,4 @@
--- The rule of the two tables, from one test that is computed at every byte and every state.
+-- The rule of the two tables, from one test that is computed for every byte and every state.
 use Prim.Native.Nat.{ℕ, zero, suc, _<_, _/_, _%_, _^_}
 use native.Mathlib.Nat.{eq-or-lt-of-le, le-of-suc-le-suc}
 use native.Mathlib.Omega.{arith}
@@ -13,7 +13,7 @@ use Rattle.text.specs.Walk.{State, step}
 use Rattle.text.specs.Private.{code, Encodes}
 use Rattle.text.proofs.Codes.{numbered, numbered-code, number-low}
 
--- The test passes at every number below n
+-- The test passes for every number below n
 abbrev pub below : (ℕ → Bool) → ℕ → Bool
 below test zero = true
 below test (suc n) = test n && below test n

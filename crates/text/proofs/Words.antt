@@ -1,4 +1,4 @@
--- Bytes as one number, of which the highest bits are taken.
+-- Bytes as one number, and its highest bits.
 use Prim.Native.Nat.{ℕ, _+_, _-_, _*_, _^_, _≤_, _<_}
 use native.Mathlib.Omega.{arith}
 use native.Mathlib.Nat.{mul-le-mul-left}
@@ -43,7 +43,7 @@ above k {s} {a} {m} {e} {j} {h} {g} {x} {y} l p q =
       ascii = λ z. ascii-join s a m m e (omega arith) (p .ascii (omega (arith, b, z))) (q .ascii (omega (arith, b, z, mul-le-mul-left (bitAnd y g) (pow-pos k))));
     }
 
--- Neither has a bit that both together lack
+-- If the bitwise or is 0, so are both numbers
 pub or-none : (x y : ℕ) → bitOr x y ≡ 0 → (x ≡ 0) × (y ≡ 0)
 or-none x y e = (omega (arith, e, or-add-and x y, and-le-r x y), omega (arith, e, or-add-and x y, and-le-l x y))
 

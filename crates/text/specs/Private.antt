@@ -1,4 +1,4 @@
--- What only the private functions of the crate promise one another. No public contract cites anything here.
+-- Definitions for the contracts of private functions; no public contract cites them.
 use mathlib.Core.List.{List}
 use mathlib.Core.Path.{_≡_}
 use Prim.Native.Nat.{ℕ, _≤_, _<_, _/_, _%_, _^_}
@@ -23,15 +23,15 @@ pub record Encodes (classes rows : List ℕ) : Type 0 where
   pub small : (b : ℕ) → b < 256 → getD classes b 0 < 12
   pub right : (q : State) (b : ℕ) → b < 256 → (getD rows (getD classes b 0) 0 / 2 ^ code q) % 64 ≡ code (step q b)
 
--- From x, the code of the state after the first a bytes of s, the walk comes to r, the code of that after the first e
+-- From x, the code of the state after the first a bytes of s, the walk leads to r, the code of the state after the first e
 abbrev pub Reaches : List ℕ → ℕ → ℕ → ℕ → ℕ → Type 0
 Reaches s a e x r = (p : State) → x ≡ code (wantedAfter p (take a s)) → r ≡ code (wantedAfter p (take e s))
 
--- The bytes of s from the place a up to e are below 128
+-- The bytes of s from a up to e are below 128
 abbrev pub Ascii : List ℕ → ℕ → ℕ → Type 0
 Ascii s a e = (k : ℕ) → a ≤ k → k < e → getD s k 0 < 128
 
--- r has the bytes of s from the place a up to e as one number of so many bits: where it has no bit of the mask, they are ASCII
+-- r, a number of `bits` bits, has the bytes of s from a up to e: if it has no bit of the mask, they are ASCII
 pub record Packs (s : List ℕ) (a e bits mask r : ℕ) : Type 0 where
   pub fits : r < 2 ^ bits
   pub ascii : bitAnd r mask ≡ 0 → Ascii s a e

@@ -1,5 +1,5 @@
 -- RFC 3629, section 4, "Syntax of UTF-8 Byte Sequences": which lists of bytes are UTF-8.
--- Each definition stands beside the rules of the RFC's grammar that it says.
+-- The comment on each definition quotes the rules of the RFC's grammar that it states.
 use mathlib.Core.List.{List, [], _∷_, _++_}
 use Prim.Native.Nat.{ℕ, _≤_}
 
@@ -20,7 +20,7 @@ tail = 0x80 to 0xBF
 abbrev pub In : Range → ℕ → Type 0
 In (lo to hi) b = (lo ≤ b) × (b ≤ hi)
 
--- The bytes are one of each range, in the order of the ranges
+-- One byte of each range, in the order of the ranges
 pub data Sequence : List Range → List ℕ → Type 0 where
   done : Sequence [] []
   byte : {r : Range} {rs : List Range} {b : ℕ} {c : List ℕ} → In r b → Sequence rs c → Sequence (r ∷ rs) (b ∷ c)
@@ -41,7 +41,7 @@ pub data Char (c : List ℕ) : Type 0 where
   utf8-4-F1 : Sequence (0xF1 to 0xF3 ∷ tail ∷ tail ∷ tail ∷ []) c → Char c
   utf8-4-F4 : Sequence (only 0xF4 ∷ 0x80 to 0x8F ∷ tail ∷ tail ∷ []) c → Char c
 
--- The bytes are characters, one after the other: UTF8-octets = *( UTF8-char )
+-- Any number of characters: UTF8-octets = *( UTF8-char )
 pub data Utf8 : List ℕ → Type 0 where
   none : Utf8 []
   more : {c l : List ℕ} → Char c → Utf8 l → Utf8 (c ++ l)

@@ -1,4 +1,4 @@
--- What is proved of the definitions, as statements. Each comment names the proof, in proofs/Exact.antt.
+-- The theorems about the definitions, as statements. Each comment names the proof, in proofs/Exact.antt.
 use mathlib.Core.Bool.{true}
 use mathlib.Core.List.{List, _++_}
 use mathlib.Core.Logic.{_↔_}
@@ -7,10 +7,10 @@ use Prim.Native.Nat.{ℕ}
 use Rattle.text.specs.Rfc3629.{Utf8}
 use Rattle.text.specs.Walk.{State, wantedAfter, utf8}
 
--- The test is true exactly on what RFC 3629's grammar derives: `utf8-exact`
+-- The test is true exactly for what RFC 3629's grammar derives: `utf8-exact`
 abbrev pub Utf8-exact : Type 0
 Utf8-exact = (l : List ℕ) → (utf8 l ≡ true) ↔ Utf8 l
 
--- To walk over two parts is to walk over the first, and from there over the second: `wanted-append`
+-- Walking over two parts is walking over the first, and from there over the second: `wanted-append`
 abbrev pub Wanted-append : Type 0
 Wanted-append = (q : State) (l m : List ℕ) → wantedAfter q (l ++ m) ≡ wantedAfter (wantedAfter q l) m

@@ -1,5 +1,5 @@
--- The same syntax as an automaton that takes the bytes from left to right, and the test `utf8` by it.
--- Theorems.antt says how the test and RFC 3629's grammar agree.
+-- The same syntax as an automaton that reads the bytes from left to right, and the test `utf8` based on it.
+-- Theorems.antt states how the test and RFC 3629's grammar agree.
 use mathlib.Core.Bool.{Bool, true, false, _&&_}
 use mathlib.Core.List.{List, [], _∷_, foldl}
 use Prim.Native.Nat.{ℕ}
@@ -7,8 +7,8 @@ use lib.Dec.{leb}
 use Rattle.text.specs.Rfc3629.{Range, _to_, only, tail}
 
 infix 70 _⇒_
--- What the bytes so far leave wanted: nothing, at the start of a character; so many bytes of UTF8-tail; what may follow
--- one of the four first bytes that narrow the second; or, past a wrong byte, nothing that could come
+-- What is wanted next: nothing, at the start of a character; one to three bytes of UTF8-tail; a second byte in the range that
+-- one of four first bytes narrows; or, after a wrong byte, something that no byte satisfies
 pub data State : Type 0 where
   start : State
   tail-1 : State
@@ -50,21 +50,21 @@ transitions failed = []
 abbrev pub within : Range → ℕ → Bool
 within (lo to hi) b = leb lo b && leb b hi
 
--- The first state where the test passes, else the second
+-- The first state if the test passes, else the second
 abbrev pub pick : Bool → State → State → State
 pick true q r = q
 pick false q r = r
 
--- The state of the first transition whose range has the byte; failed where none has it
+-- The state of the first transition whose range contains the byte; failed if there is none
 abbrev pub follow : List Transition → ℕ → State
 follow [] b = failed
 follow (r ⇒ q ∷ rest) b = pick (within r b) q (follow rest b)
 
--- What is wanted after one byte more
+-- The state after one more byte
 unfoldable pub step : State → ℕ → State
 step q b = follow (transitions q) b
 
--- What is wanted after the bytes of l, where q was wanted before them
+-- The state after the bytes of l, from the state q
 abbrev pub wantedAfter : State → List ℕ → State
 wantedAfter q l = foldl step q l
 

@@ -1,4 +1,4 @@
-// Whether bytes are UTF-8, as RFC 3629 defines it: what Rust asks of std::str::from_utf8.
+// Whether bytes are UTF-8, as RFC 3629 defines it: the check that Rust makes with std::str::from_utf8.
 ghost use mathlib.Core.Path.{_≡_};
 ghost use mathlib.Core.Bool.{true};
 ghost use mathlib.Core.Logic.{_↔_};
@@ -14,8 +14,8 @@ mod tables;
 use tables::CLASS;
 use tables::NEXT;
 
-// Where a walk stands: at the start of a character, so many continuation bytes before its end, behind one of the four
-// lead bytes that narrow the second byte, or past a wrong byte.
+// Where a walk stands: at the start of a character, one to three continuation bytes before its end, after one of the four lead
+// bytes that narrow the second byte, or past a wrong byte.
 pub enum State {
     Start,
     One,
@@ -28,14 +28,14 @@ pub enum State {
     Wrong,
 }
 
-// How a walk holds the state Start.
+// The state Start, as a walk holds it.
 const START: u64 = 0;
 
-// How many bytes are looked at for ASCII at a time.
+// How many bytes are tested for ASCII at a time.
 const BLOCK: usize = 64;
 
-// Whether s is UTF-8. Each call is handed a part that is made here, all of s: so the compiler passes its place and length
-// in registers.
+// Whether s is UTF-8. Each call gets a subslice made here, which is all of s, so that the compiler passes its address and
+// length in registers.
 pub fn is_utf8(s: &[u8]) -> bool
     ensures { λ r. ⌜ r ≡ utf8 (now (s .entry)) ⌝ }
     ensures { λ r. ⌜ (r ≡ true) ↔ Utf8 (now (s .entry)) ⌝ }
@@ -48,15 +48,15 @@ pub fn is_utf8(s: &[u8]) -> bool
     walk_from(&s[..n], i, START) == START
 }
 
-// Where a walk that stood at q stands after the bytes of s. A text may be walked in parts, each from the answer for the
-// one before; it is UTF-8 where the last answer is Start.
+// Where a walk that stood at q stands after the bytes of s. A text may be walked in parts, each from the answer for the part
+// before; it is UTF-8 if the last answer is Start.
 pub fn walk(q: State, s: &[u8]) -> State
     ensures { λ r. ⌜ stateOf r ≡ wantedAfter (stateOf q) (now (s .entry)) ⌝ }
 {
     state_of(walk_from(s, 0, code_of(q)))
 }
 
-// The walk over s from the place a on, from the state held as q. Each call makes the tables anew on its stack.
+// The walk over s from a on, from the state held as q. Each call builds the tables on its stack.
 fn walk_from(s: &[u8], a: usize, q: u64) -> u64
     requires { ⌜ a ≤ length (now s) ⌝ }
     ensures { λ r. ⌜ Reaches (now (s .entry)) a (length (now (s .entry))) q r ⌝ }
@@ -64,7 +64,7 @@ fn walk_from(s: &[u8], a: usize, q: u64) -> u64
     walk_blocks(&CLASS, &NEXT, s, a, q)
 }
 
-// The same, with the tables. A block of ASCII at the start of a character is passed over.
+// The same, with the tables. A block of ASCII at the start of a character is skipped.
 fn walk_blocks(class: &[u8; 256], next: &[u64; 12], s: &[u8], a: usize, q: u64) -> u64
     requires { ⌜ Encodes (now class) (now next) ⌝ }
     requires { ⌜ a ≤ length (now s) ⌝ }
@@ -83,7 +83,7 @@ fn walk_blocks(class: &[u8; 256], next: &[u64; 12], s: &[u8], a: usize, q: u64) 
     walk_bytes(class, next, s, i, n, x)
 }
 
-// The walk over the bytes of s from the place a up to e.
+// The walk over the bytes of s from a up to e.
 fn walk_bytes(class: &[u8; 256], next: &[u64; 12], s: &[u8], a: usize, e: usize, q: u64) -> u64
     requires { ⌜ Encodes (now class) (now next) ⌝ }
     requires { ⌜ (a ≤ e) × (e ≤ length (now s)) ⌝ }
@@ -99,7 +99,7 @@ fn walk_bytes(class: &[u8; 256], next: &[u64; 12], s: &[u8], a: usize, e: usize,
     x % 64
 }
 
-// How many bytes at the start of s are ASCII, as far as whole blocks tell: all of them where s is ASCII.
+// How many bytes at the start of s are ASCII, as far as whole blocks show: all of them if s is ASCII.
 fn ascii_prefix(s: &[u8]) -> usize
     ensures { λ r. ⌜ (r ≤ length (now (s .entry))) × Ascii (now (s .entry)) 0 r ⌝ }
 {
@@ -124,8 +124,8 @@ fn ascii_prefix(s: &[u8]) -> usize
     i
 }
 
-// Whether s, which is no longer than a block, is ASCII: by its first and its last bytes, which overlap, so that the length of s
-// decides no loop.
+// Whether s, which is no longer than a block, is ASCII: from its first and its last bytes, which overlap, so that no loop
+// depends on the length of s.
 fn is_ascii_short(s: &[u8]) -> bool
     requires { ⌜ length (now s) ≤ 64 ⌝ }
     ensures { λ r. ⌜ (r ≡ true → Ascii (now (s .entry)) 0 (length (now (s .entry)))) ⌝ }
@@ -146,7 +146,7 @@ fn is_ascii_short(s: &[u8]) -> bool
     is_ascii(s, 0, n)
 }
 
-// Each of these gathers the highest bits of the bytes from the place a on: 0 only where they are ASCII.
+// Each of these collects the highest bits of the bytes from a on: 0 only if they are ASCII.
 fn high_bits_of_32(s: &[u8], a: usize) -> u64
     requires { ⌜ a + 32 ≤ length (now s) ⌝ }
     ensures { λ r. ⌜ (r ≡ 0 → Ascii (now (s .entry)) a (a + 32)) ⌝ }
@@ -176,7 +176,7 @@ fn high_bits_of_4(s: &[u8], a: usize) -> u64
     word(s, a) & 0x8080_8080
 }
 
-// The four bytes from the place a on as one number. The compiler takes them at once, and the eight of two such numbers too.
+// The four bytes from a on as one number. The compiler loads them at once, and likewise the eight of two such numbers.
 fn word(s: &[u8], a: usize) -> u64
     requires { ⌜ a + 4 ≤ length (now s) ⌝ }
     ensures { λ r. ⌜ Packs (now (s .entry)) a (a + 4) 32 0x8080_8080 r ⌝ }
@@ -193,8 +193,8 @@ fn wide(x: u8) -> u64
     x as u64
 }
 
-// Whether the bytes of s from the place a up to e are ASCII. There is no early exit, so that the compiler can take many
-// bytes at a time.
+// Whether the bytes of s from a up to e are ASCII. There is no early exit, so that the compiler can handle many bytes at a
+// time.
 fn is_ascii(s: &[u8], a: usize, e: usize) -> bool
     requires { ⌜ (a ≤ e) × (e ≤ length (now s)) ⌝ }
     ensures { λ r. ⌜ (r ≡ true → Ascii (now (s .entry)) a e) ⌝ }

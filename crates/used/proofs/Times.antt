@@ -12,7 +12,7 @@ pub once : (L : Layout) (s : List ℕ) (st r : ReadState) → r ≡ run (times 1
 unfolding drive
 once L s st r q = q
 
--- Nothing stands before it
+-- With nothing before it
 pub unnamed : (L : Layout) (s : List ℕ) (st r : ReadState) → r ≡ run (nothing then L) s st → r ≡ run L s st
 unfolding drive
 unnamed L s st r q = q

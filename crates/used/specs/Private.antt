@@ -1,10 +1,10 @@
--- What only the private functions of the crate promise one another. No public contract cites anything here.
+-- Definitions for the contracts of private functions; no public contract cites them.
 use Rattle.layout.specs.Layout.{Layout, nothing, text}
 use Rattle.used.specs.declared.Name.{Name}
 use Rattle.used.specs.declared.Name.the-variants.{None, Str, OptionStr}
 use Rattle.layout.specs.Entities as entities
 
--- The layout of what stands before a used type
+-- The layout of what comes before a used type
 abbrev pub named : Name → Layout
 named None = nothing
 named Str = text

@@ -1,4 +1,4 @@
-// Used types, and what holds them: the arguments and returns of functions, the types of aggregates.
+// Used types, and what contains them: the arguments and returns of functions, the types of aggregates.
 use leaf::Cursor;
 ghost use mathlib.Core.Path.{_≡_};
 ghost use Rattle.layout.specs.Layout.{_then_};
@@ -8,7 +8,7 @@ ghost use Rattle.leaf.specs.State.{readState};
 ghost use Rattle.leaf.specs.Run.{run};
 ghost use Rattle.used.specs.Private.{named};
 
-// What stands before a used type: nothing; of an argument its pattern; of an aggregate's type a name that may be missing.
+// What comes before a used type: nothing; for an argument its pattern; for an aggregate's type an optional name.
 enum Name {
     None,
     Str,
@@ -34,7 +34,7 @@ pub fn read_pg_extern_argument_list(c: Cursor, s: &[u8], t: &mut [u32]) -> Curso
     read_used_types(c, s, t, Name::Str, c.value)
 }
 
-// A function's return. The items of an iterated one are laid out like the types of an aggregate.
+// A function's return. The items of an iterated one have the layout of an aggregate's types.
 pub fn read_pg_extern_return(c: Cursor, s: &[u8], t: &mut [u32]) -> Cursor
     ensures { λ r. ⌜ readState r (now (t .exit)) ≡ run PgExternReturn (now (s .entry)) (readState c (now (t .entry))) ⌝ }
 {
@@ -63,8 +63,8 @@ pub fn read_aggregate_type_list(c: Cursor, s: &[u8], t: &mut [u32]) -> Cursor
     read_used_types(c, s, t, Name::OptionStr, c.value)
 }
 
-// Some used types, each behind its name. One is read as a list of one, so that only this loop calls `one_used_type`: the
-// compiler then holds the cursor in registers, and, since the part of the bytes is made here, their place and length too.
+// Some used types, each after its name. A single one is read as a list of one, so that only this loop calls `one_used_type`:
+// the compiler then keeps the cursor in registers, and, since the subslice is made here, its address and length too.
 fn read_used_types(c: Cursor, s: &[u8], t: &mut [u32], name: Name, count: u32) -> Cursor
     ensures { λ r. ⌜ readState r (now (t .exit)) ≡ run (times count (named name then UsedType)) (now (s .entry)) (readState c (now (t .entry))) ⌝ }
 {
@@ -94,7 +94,7 @@ fn one_used_type(c: Cursor, s: &[u8], t: &mut [u32], name: Name) -> Cursor
     metadata::read_function_metadata_type(c.copy(), s, t) // metadata
 }
 
-// What stands before a used type.
+// What comes before a used type.
 fn read_name(c: Cursor, s: &[u8], t: &mut [u32], name: Name) -> Cursor
     ensures { λ r. ⌜ readState r (now (t .exit)) ≡ run (named name) (now (s .entry)) (readState c (now (t .entry))) ⌝ }
 {

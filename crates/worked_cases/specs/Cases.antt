@@ -1,4 +1,4 @@
--- The fourteen cases that document 01 works out, in one table.
+-- The worked cases (docs/FORMAT.md, Worked cases), in one table.
 use Prim.Native.Nat.{ℕ}
 use mathlib.Core.List.{List, [], _∷_}
 use mathlib.Core.Option.{Option, none, some}
@@ -18,23 +18,23 @@ use Rattle.section.specs.Demand3.{Good}
 use Rattle.numeric.specs.Numeric.{numericText}
 use Rattle.listing.specs.Listing.{lentTable, resultLines, listing}
 
--- What is given: a section with its derivation; a section with the number and the place of its refusal; a metadata record with
--- its value and its length; the precision and the scale of a Numeric mapping
+-- The input of a case: a section with its derivation; a section with the number and place of its refusal; a metadata record
+-- with its value and its length; the precision and scale of a Numeric mapping
 pub data Input : Type 0 where
   derived : List ℕ → Derivation → Input
   bad : List ℕ → (number place : ℕ) → Input
   metadata : List ℕ → Value FunctionMetadataType → (size : ℕ) → Input
   numeric : (precision scale : Option ℕ) → Input
 
--- What is shown of it: the listing; the same lines for a metadata record; the SQL text
+-- What is shown for it: the listing; the same lines for a metadata record; the SQL text
 abbrev pub shown : Input → List ℕ
 shown (derived s d) = listing s
 shown (bad s n p) = listing s
 shown (metadata s v size) = resultLines (readingAlone FunctionMetadataType 0 s lentTable)
 shown (numeric precision scale) = numericText precision scale
 
--- What the layouts say of it: the derivation derives the section; the section meets the refusal's condition; the value derives the
--- record, and from the rows of its leaves the record is written, with its length
+-- What the layouts say about it: the derivation derives the section; the section meets the refusal's condition; the value
+-- derives the record, and the record is written from the rows of its leaves, with its length
 abbrev pub Holds : Input → Type 0
 Holds (derived s d) = Good s d
 Holds (bad s n p) = SectionRefusal s n p
@@ -46,7 +46,7 @@ Holds (numeric precision scale) = Unit {0}
 abbrev pub onlyPadding : ℕ → Derivation
 onlyPadding n = record { items = []; padding = n }
 
--- An item alone
+-- A derivation with one item
 abbrev pub alone : Item → Derivation
 alone i = record { items = i ∷ []; padding = 0 }
 
@@ -60,7 +60,7 @@ unfoldable pub skipAndOneOfSkip : Value FunctionMetadataType
 unfolding FunctionMetadataType OptionResolution ArgumentSql ReturnSql Returns SqlMapping
 skipAndOneOfSkip = ((0, tt, tt), ((1, tt, (5, tt, tt)), (1, tt, (1, tt, (5, tt, tt)))))
 
--- The cases, each with what document 01 shows of it
+-- The cases, each with what FORMAT.md shows for it
 unfoldable pub cases : List (Input × List ℕ)
 cases =
     (derived (0x11 ∷ 0x00 ∷ 0x00 ∷ 0x00 ∷ 0x01 ∷ replicate 16 0x00) (alone (entity emptySchema)), ascii "accept 1 5\n1 4 1\n6 9 0\n6 13 0\n6 17 0\n4 17 0\n")
@@ -79,11 +79,11 @@ cases =
     ∷ (numeric none (some 5), ascii "NUMERIC")
     ∷ []
 
--- Of each case
+-- What holds for each case
 abbrev pub Each : List (Input × List ℕ) → Type 0
 Each [] = Unit {0}
 Each (c ∷ cs) = (shown (c .0) ≡ c .1) × Holds (c .0) × Each cs
 
--- Each is shown so, and the layouts say so: `cases-hold` in proofs/Cases.antt
+-- Each case is shown as stated, and the layouts agree: `cases-hold` in proofs/Cases.antt
 abbrev pub Cases-hold : Type 0
 Cases-hold = Each cases

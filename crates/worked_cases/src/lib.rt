@@ -1,1 +1,1 @@
-// Document 01's worked cases, which are theorems: see specs and proofs. There is no code.
+// The worked cases of docs/FORMAT.md, as theorems: see specs and proofs. There is no code.

@@ -1,5 +1,5 @@
-// The writer of the metadata of a type, from rows: how it maps to SQL as an argument and as a result. A function takes the rows of
-// its part; once all are taken and nothing is refused, their bytes are stored.
+// The writer of a type's metadata, from rows: how it maps to SQL as an argument and as a result. Each function takes the rows
+// of its part; once all are taken and nothing is refused, their bytes are stored.
 use entry_writer::EntryWriter;
 use length::Length;
 ghost use mathlib.Core.Path.{_≡_};
@@ -29,8 +29,8 @@ pub fn sql_mapping(w: EntryWriter, rows: &[u32], text: &[u8]) -> EntryWriter
     sql_mappings(w, rows, text, 1)
 }
 
-// Some mappings. One is taken as a list of one, so that only this loop calls `one_sql_mapping`: the compiler then holds the
-// writer in registers.
+// Some mappings. A single one is taken as a list of one, so that only this loop calls `one_sql_mapping`: the compiler then
+// keeps the writer in registers.
 fn sql_mappings(w: EntryWriter, rows: &[u32], text: &[u8], count: u32) -> EntryWriter
     ensures { λ r. ⌜ r ≡ consume (times count SqlMapping) (now (rows .entry)) (now (text .entry)) w ⌝ }
 {
@@ -74,7 +74,7 @@ pub fn sql_array_mapping(w: EntryWriter, rows: &[u32], text: &[u8]) -> EntryWrit
     }
 }
 
-// A Numeric mapping: each number is taken also where its flag is 0.
+// A Numeric mapping: each number is taken even if its flag is 0.
 pub fn numeric(w: EntryWriter, rows: &[u32], text: &[u8]) -> EntryWriter
     ensures { λ r. ⌜ r ≡ consume Numeric (now (rows .entry)) (now (text .entry)) w ⌝ }
 {
@@ -178,7 +178,7 @@ pub fn resolution(w: EntryWriter, rows: &[u32], text: &[u8]) -> EntryWriter
     type_origin(w, rows, text) // type_origin
 }
 
-// This and the next seven measure, from its rows, the bytes of one part: its length, or a refusal of 14 to 16. Here: a mapping.
+// This and the next seven measure one part from its rows: its length in bytes, or a refusal of 14 to 16. Here: a mapping.
 pub fn sql_mapping_len(rows: &[u32], text: &[u8]) -> Length
     ensures { λ r. ⌜ lengthOf r ≡ lengthIn (measured SqlMapping (now (rows .entry)) (now (text .entry))) ⌝ }
     ensures { λ r. ⌜ ExactLength SqlMapping (now (rows .entry)) (now (text .entry)) (lengthOf r) ⌝ }
@@ -187,7 +187,7 @@ pub fn sql_mapping_len(rows: &[u32], text: &[u8]) -> Length
     w.finish(rows)
 }
 
-// That of an array's mapping.
+// An array's mapping.
 pub fn sql_array_mapping_len(rows: &[u32], text: &[u8]) -> Length
     ensures { λ r. ⌜ lengthOf r ≡ lengthIn (measured SqlArrayMapping (now (rows .entry)) (now (text .entry))) ⌝ }
     ensures { λ r. ⌜ ExactLength SqlArrayMapping (now (rows .entry)) (now (text .entry)) (lengthOf r) ⌝ }
@@ -196,7 +196,7 @@ pub fn sql_array_mapping_len(rows: &[u32], text: &[u8]) -> Length
     w.finish(rows)
 }
 
-// That of what is returned.
+// What is returned.
 pub fn returns_len(rows: &[u32], text: &[u8]) -> Length
     ensures { λ r. ⌜ lengthOf r ≡ lengthIn (measured Returns (now (rows .entry)) (now (text .entry))) ⌝ }
     ensures { λ r. ⌜ ExactLength Returns (now (rows .entry)) (now (text .entry)) (lengthOf r) ⌝ }
@@ -205,7 +205,7 @@ pub fn returns_len(rows: &[u32], text: &[u8]) -> Length
     w.finish(rows)
 }
 
-// That of an argument-side error.
+// An argument-side error.
 pub fn argument_error_len(rows: &[u32], text: &[u8]) -> Length
     ensures { λ r. ⌜ lengthOf r ≡ lengthIn (measured ArgumentError (now (rows .entry)) (now (text .entry))) ⌝ }
     ensures { λ r. ⌜ ExactLength ArgumentError (now (rows .entry)) (now (text .entry)) (lengthOf r) ⌝ }
@@ -214,7 +214,7 @@ pub fn argument_error_len(rows: &[u32], text: &[u8]) -> Length
     w.finish(rows)
 }
 
-// That of an argument-side result.
+// An argument-side result.
 pub fn argument_sql_len(rows: &[u32], text: &[u8]) -> Length
     ensures { λ r. ⌜ lengthOf r ≡ lengthIn (measured ArgumentSql (now (rows .entry)) (now (text .entry))) ⌝ }
     ensures { λ r. ⌜ ExactLength ArgumentSql (now (rows .entry)) (now (text .entry)) (lengthOf r) ⌝ }
@@ -223,7 +223,7 @@ pub fn argument_sql_len(rows: &[u32], text: &[u8]) -> Length
     w.finish(rows)
 }
 
-// That of a return-side error.
+// A return-side error.
 pub fn returns_error_len(rows: &[u32], text: &[u8]) -> Length
     ensures { λ r. ⌜ lengthOf r ≡ lengthIn (measured ReturnsError (now (rows .entry)) (now (text .entry))) ⌝ }
     ensures { λ r. ⌜ ExactLength ReturnsError (now (rows .entry)) (now (text .entry)) (lengthOf r) ⌝ }
@@ -232,7 +232,7 @@ pub fn returns_error_len(rows: &[u32], text: &[u8]) -> Length
     w.finish(rows)
 }
 
-// That of a return-side result.
+// A return-side result.
 pub fn return_sql_len(rows: &[u32], text: &[u8]) -> Length
     ensures { λ r. ⌜ lengthOf r ≡ lengthIn (measured ReturnSql (now (rows .entry)) (now (text .entry))) ⌝ }
     ensures { λ r. ⌜ ExactLength ReturnSql (now (rows .entry)) (now (text .entry)) (lengthOf r) ⌝ }
@@ -241,7 +241,7 @@ pub fn return_sql_len(rows: &[u32], text: &[u8]) -> Length
     w.finish(rows)
 }
 
-// That of a metadata record.
+// A metadata record.
 pub fn function_metadata_type_len(rows: &[u32], text: &[u8]) -> Length
     ensures { λ r. ⌜ lengthOf r ≡ lengthIn (measured FunctionMetadataType (now (rows .entry)) (now (text .entry))) ⌝ }
     ensures { λ r. ⌜ ExactLength FunctionMetadataType (now (rows .entry)) (now (text .entry)) (lengthOf r) ⌝ }
@@ -250,7 +250,7 @@ pub fn function_metadata_type_len(rows: &[u32], text: &[u8]) -> Length
     w.finish(rows)
 }
 
-// Writes a mapping to the start of dest, and answers its length; or a refusal of 14 to 17, and dest is unchanged.
+// Writes a mapping to the start of dest and answers its length; or answers a refusal of 14 to 17, with dest unchanged.
 pub fn encode_sql_mapping(rows: &[u32], text: &[u8], dest: &mut [u8]) -> Length
     ensures { λ r. ⌜ lengthOf r ≡ lengthIn (write SqlMapping (now (rows .entry)) (now (text .entry)) (length (now (dest .entry)))) ⌝ }
     ensures { λ r. ⌜ now (dest .exit) ≡ written (write SqlMapping (now (rows .entry)) (now (text .entry)) (length (now (dest .entry)))) (now (dest .entry)) ⌝ }
@@ -264,7 +264,7 @@ pub fn encode_sql_mapping(rows: &[u32], text: &[u8], dest: &mut [u8]) -> Length
     length
 }
 
-// Writes a metadata record to the start of dest, and answers its length; or a refusal of 14 to 17, and dest is unchanged.
+// Writes a metadata record to the start of dest and answers its length; or answers a refusal of 14 to 17, with dest unchanged.
 pub fn encode_function_metadata_type(rows: &[u32], text: &[u8], dest: &mut [u8]) -> Length
     ensures { λ r. ⌜ lengthOf r ≡ lengthIn (write FunctionMetadataType (now (rows .entry)) (now (text .entry)) (length (now (dest .entry)))) ⌝ }
     ensures { λ r. ⌜ now (dest .exit) ≡ written (write FunctionMetadataType (now (rows .entry)) (now (text .entry)) (length (now (dest .entry)))) (now (dest .entry)) ⌝ }

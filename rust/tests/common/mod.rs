@@ -1,7 +1,7 @@
 //! Bytes of the format, made from its description.
 #![allow(dead_code)]
 
-use pgrxsc::{Reading, Row, Sort};
+use pgrxsc::{Reading, Row, Sort, ROW_WIDTH};
 
 /// Bytes in base 16, with blanks between them where that helps.
 pub fn hex(digits: &str) -> Vec<u8> {
@@ -20,7 +20,7 @@ pub fn text(text: &str) -> Vec<u8> {
     [number(text.len() as u32), text.as_bytes().to_vec()].concat()
 }
 
-/// An entry: the payload behind its length.
+/// An entry: a length, then the payload.
 pub fn entry(payload: &[u8]) -> Vec<u8> {
     [number(payload.len() as u32), payload.to_vec()].concat()
 }
@@ -93,9 +93,20 @@ pub fn custom_sql(result: &[u8]) -> Vec<u8> {
     .concat()
 }
 
-/// The rows' numbers.
-pub fn numbers(reading: Reading) -> Vec<[u32; 3]> {
-    reading.rows().map(Row::numbers).collect()
+/// The rows of a reading, each as sort, offset and value.
+pub fn rows(reading: Reading) -> Vec<(u32, u32, u32)> {
+    let rows = reading.rows();
+    rows.map(|row| (row.sort.number(), row.offset, row.value))
+        .collect()
+}
+
+/// A table of rows, each given by sort, offset and value, which may be any numbers.
+pub fn table(rows: &[(u32, u32, u32)]) -> Vec<u32> {
+    let mut table = vec![0; rows.len() * ROW_WIDTH];
+    for (row, &(sort, offset, value)) in table.chunks_exact_mut(ROW_WIDTH).zip(rows) {
+        (row[0], row[1], row[2]) = (sort, offset, value);
+    }
+    table
 }
 
 pub fn text_row(offset: u32, len: u32) -> Row {

@@ -1,4 +1,4 @@
--- Other lengths; or byte after byte up to the end, or to two that differ.
+-- The lengths differ; or byte after byte, up to the end or to two that differ.
 use Prim.Native.Nat.{_-_, _≤_}
 use native.Mathlib.Omega.{arith}
 use mathlib.Core.Path.{_≡_, refl, sym, _∙_}

@@ -29,14 +29,14 @@ slice-aggregate-answer c = sym (length-take-le _ _ (search needs))
 answer-requires : tie.Need-answer-requires
 answer-requires c κs = search needs
 
-behind-requires : tie.Need-behind-requires
-behind-requires c κs = search needs
+after-requires : tie.Need-after-requires
+after-requires c κs = search needs
 
-behind-requires-2 : tie.Need-behind-requires-2
-behind-requires-2 c κs = search needs
+after-requires-2 : tie.Need-after-requires-2
+after-requires-2 c κs = search needs
 
-behind-requires-3 : tie.Need-behind-requires-3
-behind-requires-3 c κs = search needs
+after-requires-3 : tie.Need-after-requires-3
+after-requires-3 c κs = search needs
 
 start-of-requires : tie.Need-start-of-requires
 start-of-requires c κs = search needs
@@ -62,9 +62,9 @@ run-parsed-spec =
     large-buffer-requires
     slice-aggregate-answer
     answer-requires
-    behind-requires
-    behind-requires-2
-    behind-requires-3
+    after-requires
+    after-requires-2
+    after-requires-3
     start-of-requires
     ran-requires
     judge-requires-2

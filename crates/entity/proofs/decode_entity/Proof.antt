@@ -1,4 +1,4 @@
--- The three calls are the reading alone.
+-- The three calls together are the reading alone.
 use native.Mathlib.Omega.{arith}
 use borrow.Author.Needs.{needs}
 use denote.Ref.{now}

@@ -1,4 +1,4 @@
--- The bytes so far are above the limit, or the sum is, or none.
+-- The length so far is above the limit, or the sum is, or neither.
 use Prim.Native.Nat.{_+_}
 use native.Mathlib.Omega.{arith}
 use borrow.Author.Needs.{needs}

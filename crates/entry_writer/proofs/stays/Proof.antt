@@ -1,4 +1,4 @@
--- It begins behind the lent bytes, or its end is compared.
+-- It begins past the lent bytes, or its end is compared.
 use Prim.Native.Nat.{_+_}
 use native.Mathlib.Omega.{arith}
 use mathlib.Core.Path.{sym}

@@ -1,4 +1,4 @@
--- By the sort; a text that stays is stored behind its length.
+-- By the sort; a text within the lent bytes is stored after its length.
 use Rattle.entry_writer.proofs.Row.{length-one, one-stored, four-stored, text-left, text-stored, stays-within}
 use Rattle.table.proofs.Rows.{sort-there, offset-there, value-there}
 use denote.Ref.{now}

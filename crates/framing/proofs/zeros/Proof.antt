@@ -1,4 +1,4 @@
--- The bits gathered so far are 0 as long as all bytes are.
+-- The bits collected so far are 0 exactly if all bytes so far are.
 use Rattle.framing.proofs.Padding.{zeros-on}
 use Rattle.framing.specs.Framing.{allZero}
 use denote.Ref.{now}

@@ -1,4 +1,4 @@
--- The two ways of the code are those of the listing.
+-- The two cases of the code are those of the listing.
 use native.Mathlib.Omega.{arith}
 use mathlib.Core.Path.{_≡_, ap}
 use borrow.Author.Needs.{needs}
@@ -6,7 +6,7 @@ use Rattle.table.specs.Answers.{resultOf}
 use Rattle.listing.specs.Listing.{lentTable}
 use Rattle.listing.specs.Private.{Place}
 use Rattle.listing.proofs.Lines.{word-put, long-listing, read-listing, rows-there, listed}
-use Rattle.listing.proofs.Places.{place-behind}
+use Rattle.listing.proofs.Places.{place-after}
 use Rattle.section.specs.Section.{reading}
 use Rattle.listing.proofs.listing.Statement.{statement}
 use Rattle.listing.proofs.listing.Tie as tie
@@ -18,7 +18,7 @@ put-requires : tie.Need-put-requires
 put-requires c κs = search needs
 
 put-byte-requires : tie.Need-put-byte-requires
-put-byte-requires c κs = omega (arith, place-behind _ _ _ (c .before .before .before .put .ensures))
+put-byte-requires c κs = omega (arith, place-after _ _ _ (c .before .before .before .put .ensures))
 
 same-length : tie.Need-same-length
 same-length c = search needs
@@ -30,7 +30,7 @@ returns c =
     let a = c .before .before .before .before .before .before .before .before .before .before .before .before .args in
     let s = a .input .now in
     let e = listed s _ (a .out .now) _ _ (long-listing s (omega (arith, if1 .taken))) (word-put _ _ _ _ put-ensures (c .before .before .put-byte .ensures)) in
-    (e .0, (e .1, omega (arith, place-behind _ _ _ put-ensures, ap (λ (p : Place). p .at) (c .before .before .put-byte .ensures))))
+    (e .0, (e .1, omega (arith, place-after _ _ _ put-ensures, ap (λ (p : Place). p .at) (c .before .before .put-byte .ensures))))
 
 lent-table-requires : tie.Need-lent-table-requires
 lent-table-requires c κs = search needs

@@ -1,4 +1,4 @@
--- What is put and what is left to put are the bytes of s.
+-- What has been put and what is left to put are the bytes of s.
 use Prim.Native.Nat.{_+_, _-_, _≤_}
 use native.Mathlib.Omega.{arith}
 use mathlib.Core.Path.{_≡_, refl, sym, ap, _∙_}

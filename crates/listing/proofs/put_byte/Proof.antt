@@ -1,4 +1,4 @@
--- Behind the end nothing is stored.
+-- Past the end nothing is stored.
 use Prim.Native.Nat.{ℕ, _+_}
 use mathlib.Core.List.{List}
 use mathlib.Core.Path.{sym, ap}

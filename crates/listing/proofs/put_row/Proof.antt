@@ -1,11 +1,11 @@
--- The first number, the others behind a blank each, and the end of the line are the line.
+-- The first number, the others after a space each, and the end of the line make up the line.
 use Prim.Native.Nat.{_+_, _-_, _*_, _≤_, _<_}
 use native.Mathlib.Omega.{arith}
 use mathlib.Core.List.{map}
 use mathlib.Core.Path.{_≡_, refl, ap, _∙_}
 use lib.ListN.{length, drop}
 use borrow.Author.Needs.{needs}
-use Rattle.listing.proofs.Places.{put-length, place-behind}
+use Rattle.listing.proofs.Places.{put-length, place-after}
 use Rattle.listing.proofs.Lines.{number-put, line-put}
 use Rattle.listing.specs.Private.{Place, place, putAll}
 use Rattle.listing.specs.Listing.{further}
@@ -33,7 +33,7 @@ put-decimal-requires : tie.Need-put-decimal-requires Inv-loop μ-loop
 put-decimal-requires c κs = search needs
 
 loop-holds : tie.Need-loop-holds Inv-loop μ-loop
-loop-holds c = (search needs, omega (arith, place-behind _ _ _ (c .before .before .put-decimal .ensures), most-32 (c .before .before .before .wide .result) (omega arith)), refl)
+loop-holds c = (search needs, omega (arith, place-after _ _ _ (c .before .before .put-decimal .ensures), most-32 (c .before .before .before .wide .result) (omega arith)), refl)
 
 mul-wide : tie.Need-mul-wide Inv-loop μ-loop
 mul-wide c = search needs
@@ -57,7 +57,7 @@ loop-again : tie.Need-loop-again Inv-loop μ-loop
 loop-again c =
     let x = c .before .before .before .before .before .before .before .loop in let n = c .before .before .before .wide2 .result in (
       search needs,
-      omega (arith, place-behind _ _ _ (c .before .before .put-word .ensures), most-32 n (omega arith)),
+      omega (arith, place-after _ _ _ (c .before .before .put-word .ensures), most-32 n (omega arith)),
       number-put _ (x .k) n _ _ _ (search needs) (c .before .before .before .wide2 .ensures .0) (c .before .before .put-word .ensures) (x .inv .2),
     )
 

@@ -1,4 +1,4 @@
--- A blank, then the digits.
+-- A space, then the digits.
 use native.Mathlib.Omega.{arith}
 use mathlib.Core.Path.{ap, _∙_}
 use borrow.Author.Needs.{needs}

@@ -1,4 +1,4 @@
--- No precision, no scale, or both: each text is stored behind the ones before it.
+-- No precision, no scale, or both: each text is stored after those before it.
 use native.Mathlib.Omega.{arith}
 use mathlib.Core.Path.{_∙_}
 use borrow.Author.Needs.{needs}

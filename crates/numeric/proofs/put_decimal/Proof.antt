@@ -1,4 +1,4 @@
--- The digits that the callee holds are those of n.
+-- The digits that the callee returns are those of n.
 use native.Mathlib.Omega.{arith}
 use borrow.Author.Needs.{needs}
 use Rattle.decimal.proofs.Numeral.{digits-taken, digits-fit, most-32}

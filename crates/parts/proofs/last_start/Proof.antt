@@ -1,4 +1,4 @@
--- What stands after the last match, from i on, is the SQL name.
+-- What comes after the last match, from i on, is the SQL name.
 use Prim.Native.Nat.{_-_, _≤_}
 use native.Mathlib.Omega.{arith}
 use mathlib.Core.Path.{_≡_, refl, sym, _∙_}

@@ -1,4 +1,4 @@
--- The part where the text stands.
+-- The part where the text is.
 use Rattle.parts.proofs.RowText.{row-lies-in}
 use Rattle.parts.specs.Parts.{partOf, numberIn, placeIn}
 use denote.Ref.{now}

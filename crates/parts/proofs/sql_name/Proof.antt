@@ -1,4 +1,4 @@
--- The part where the name stands.
+-- The part where the name is.
 use Rattle.parts.proofs.SqlName.{name-part, name-refusal, name-lies-in}
 use Rattle.parts.specs.Parts.{rowText, partOf, numberIn, placeIn}
 use denote.Ref.{now}

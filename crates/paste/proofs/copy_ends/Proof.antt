@@ -1,4 +1,4 @@
--- The first m bytes and the last m cover all.
+-- The first m bytes and the last m cover all of them.
 use native.Mathlib.Omega.{arith}
 use borrow.Author.Needs.{needs}
 use denote.Ref.{now}

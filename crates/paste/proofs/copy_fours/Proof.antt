@@ -1,4 +1,4 @@
--- The first four bytes and the last four cover all.
+-- The first four bytes and the last four cover all of them.
 use native.Mathlib.Omega.{arith}
 use borrow.Author.Needs.{needs}
 use denote.Ref.{now}

@@ -1,64 +1,53 @@
--- The pairs of the entries passed, with those of the rest, are all pairs.
-use Prim.Native.Nat.{_-_}
+-- No room for the places, or the pairs among them.
 use native.Mathlib.Omega.{arith}
-use lib.ListN.{length}
-use Rattle.paths.proofs.Walk.{Before, before-holds, before-step, before-again, before-ends}
+use mathlib.Core.Path.{sym}
+use lib.Seq.{length-take-le}
+use borrow.Author.Needs.{needs}
+use denote.Ref.{now}
+use Rattle.paths.proofs.Places.{gathered-counts}
 use Rattle.paths.proofs.count_pairs.Statement.{statement}
 use Rattle.paths.proofs.count_pairs.Tie as tie
 
-abbrev Inv-loop : tie.InvT-loop
-Inv-loop s at₀ count₀ size₀ at count size = Before s at count size
+find-paths-requires : tie.Need-find-paths-requires
+find-paths-requires c κs = search needs
 
-abbrev μ-loop : tie.MeasureT-loop
-μ-loop s at₀ count₀ size₀ at count size = length s - at
+count-one-by-one-requires : tie.Need-count-one-by-one-requires
+count-one-by-one-requires c κs = search needs
 
-number-at-requires : tie.Need-number-at-requires Inv-loop μ-loop
-number-at-requires c κs = tt
+same-length : tie.Need-same-length
+same-length c = search needs
 
-loop-holds : tie.Need-loop-holds Inv-loop μ-loop
-loop-holds c = before-holds (c .before .before .pre) (c .number-at .result) (c .number-at .ensures)
+returns : tie.Need-returns
+returns c = search needs
 
-add-payload : tie.Need-add-payload Inv-loop μ-loop
-add-payload c = let t = before-step (c .before .loop .inv) (c .loop-test .taken) in omega (arith, t .payload-in .begins, t .payload-in .small)
+slice-relend-prefix-equal-pairs : tie.Need-slice-relend-prefix-equal-pairs
+slice-relend-prefix-equal-pairs c = search needs
 
-cast-at : tie.Need-cast-at Inv-loop μ-loop
-cast-at c = let t = before-step (c .before .loop .inv) (c .loop-test .taken) in omega (arith, t .rest .inside, t .rest .small)
+slice-aggregate-equal-pairs : tie.Need-slice-aggregate-equal-pairs
+slice-aggregate-equal-pairs c = sym (length-take-le (c .before .before .before .before .find-paths .result) (c .before .before .before .before .find-paths .last .1 .0) (omega arith))
 
-add-at : tie.Need-add-at Inv-loop μ-loop
-add-at c = let t = before-step (c .before .loop .inv) (c .loop-test .taken) in omega (arith, t .rest .inside, t .rest .small)
+equal-pairs-requires : tie.Need-equal-pairs-requires
+equal-pairs-requires c κs = search needs
 
-pairs-with-later-requires : tie.Need-pairs-with-later-requires Inv-loop μ-loop
-pairs-with-later-requires c κs = let t = before-step (c .before .loop .inv) (c .loop-test .taken) in (t .payload-in, t .rest)
+same-length-2 : tie.Need-same-length-2
+same-length-2 c = search needs
 
-add-count : tie.Need-add-count Inv-loop μ-loop
-add-count c = omega (arith, c .before .before .loop .inv .bound, c .before .before .loop .inv .rest .inside, c .before .before .loop .inv .rest .small, c .pairs-with-later .ensures .small)
-
-number-at-requires-2 : tie.Need-number-at-requires-2 Inv-loop μ-loop
-number-at-requires-2 c κs = tt
-
-loop-less : tie.Need-loop-less Inv-loop μ-loop
-loop-less c = let t = before-step (c .before .before .before .loop .inv) (c .before .before .loop-test .taken) in omega (arith, t .rest .inside)
-
-loop-again : tie.Need-loop-again Inv-loop μ-loop
-loop-again c = before-again (c .before .before .before .loop .inv) (c .before .before .loop-test .taken) (c .before .pairs-with-later .result) (c .number-at2 .result) (c .before .pairs-with-later .ensures) (c .number-at2 .ensures)
-
-returns : tie.Need-returns Inv-loop μ-loop
-returns c = before-ends (c .before .loop .inv) (c .loop-test .left)
+returns-2 : tie.Need-returns-2
+returns-2 c =
+    let args = c .before .before .before .before .before .before .before .before .before .before .before .args in
+    let find-paths = c .before .before .before .before .before .before .before .find-paths in
+    gathered-counts (now (args .s)) (find-paths .last .1 .0) (find-paths .result) (find-paths .ensures) (omega arith) (c .before .before .equal-pairs .result) (c .before .before .equal-pairs .ensures)
 
 pub count-pairs-spec : {M : Type 1} → statement M
 count-pairs-spec =
     tie.close
     (tie.spec
-    Inv-loop
-    μ-loop
-    number-at-requires
-    loop-holds
-    add-payload
-    cast-at
-    add-at
-    pairs-with-later-requires
-    add-count
-    number-at-requires-2
-    loop-less
-    loop-again
-    returns)
+    find-paths-requires
+    count-one-by-one-requires
+    same-length
+    returns
+    slice-relend-prefix-equal-pairs
+    slice-aggregate-equal-pairs
+    equal-pairs-requires
+    same-length-2
+    returns-2)

@@ -15,68 +15,68 @@ wide-requires c κs = search needs
 add-at : tie.Need-add-at
 add-at c = search needs
 
-behind-two-texts-requires : tie.Need-behind-two-texts-requires
-behind-two-texts-requires c κs = search needs
+after-two-texts-requires : tie.Need-after-two-texts-requires
+after-two-texts-requires c κs = search needs
 
-behind-two-texts-requires-2 : tie.Need-behind-two-texts-requires-2
-behind-two-texts-requires-2 c κs = search needs
+after-two-texts-requires-2 : tie.Need-after-two-texts-requires-2
+after-two-texts-requires-2 c κs = search needs
 
-behind-text-requires : tie.Need-behind-text-requires
-behind-text-requires c κs = search needs
+after-text-requires : tie.Need-after-text-requires
+after-text-requires c κs = search needs
 
-behind-name-file-line-requires : tie.Need-behind-name-file-line-requires
-behind-name-file-line-requires c κs = search needs
+after-name-file-line-requires : tie.Need-after-name-file-line-requires
+after-name-file-line-requires c κs = search needs
 
-behind-text-requires-2 : tie.Need-behind-text-requires-2
-behind-text-requires-2 c κs = search needs
+after-text-requires-2 : tie.Need-after-text-requires-2
+after-text-requires-2 c κs = search needs
 
-behind-name-file-line-requires-2 : tie.Need-behind-name-file-line-requires-2
-behind-name-file-line-requires-2 c κs = search needs
+after-name-file-line-requires-2 : tie.Need-after-name-file-line-requires-2
+after-name-file-line-requires-2 c κs = search needs
 
-behind-text-requires-3 : tie.Need-behind-text-requires-3
-behind-text-requires-3 c κs = search needs
+after-text-requires-3 : tie.Need-after-text-requires-3
+after-text-requires-3 c κs = search needs
 
-behind-name-file-line-requires-3 : tie.Need-behind-name-file-line-requires-3
-behind-name-file-line-requires-3 c κs = search needs
+after-name-file-line-requires-3 : tie.Need-after-name-file-line-requires-3
+after-name-file-line-requires-3 c κs = search needs
 
-behind-name-file-line-requires-4 : tie.Need-behind-name-file-line-requires-4
-behind-name-file-line-requires-4 c κs = search needs
+after-name-file-line-requires-4 : tie.Need-after-name-file-line-requires-4
+after-name-file-line-requires-4 c κs = search needs
 
-behind-name-file-line-requires-5 : tie.Need-behind-name-file-line-requires-5
-behind-name-file-line-requires-5 c κs = search needs
+after-name-file-line-requires-5 : tie.Need-after-name-file-line-requires-5
+after-name-file-line-requires-5 c κs = search needs
 
-behind-text-requires-4 : tie.Need-behind-text-requires-4
-behind-text-requires-4 c κs = search needs
+after-text-requires-4 : tie.Need-after-text-requires-4
+after-text-requires-4 c κs = search needs
 
 returns : tie.Need-returns
 returns c =
     let start = c .before .before .before .before .before in
-    c .behind-two-texts .ensures .0 ∙ sym (place-in (now (start .args .s)) (start .args .payload) 2 (sym (c .before .before .wide .ensures .0) ∙ c .before .match .keys1))
+    c .after-two-texts .ensures .0 ∙ sym (place-in (now (start .args .s)) (start .args .payload) 2 (sym (c .before .before .wide .ensures .0) ∙ c .before .match .keys1))
 
 returns-2 : tie.Need-returns-2
 returns-2 c =
     let start = c .before .before .before .before .before .before in
-    rw (c .before .behind-two-texts2 .ensures .0) at (c .behind-text .ensures .0) ∙ sym (place-in (now (start .args .s)) (start .args .payload) 3 (sym (c .before .before .before .wide .ensures .0) ∙ c .before .before .match .keys2))
+    rw (c .before .after-two-texts2 .ensures .0) at (c .after-text .ensures .0) ∙ sym (place-in (now (start .args .s)) (start .args .payload) 3 (sym (c .before .before .before .wide .ensures .0) ∙ c .before .before .match .keys2))
 
 returns-3 : tie.Need-returns-3
 returns-3 c =
     let start = c .before .before .before .before .before .before in
-    rw (c .before .behind-name-file-line .ensures .0) at (c .behind-text2 .ensures .0) ∙ sym (place-in (now (start .args .s)) (start .args .payload) 4 (sym (c .before .before .before .wide .ensures .0) ∙ c .before .before .match .keys3))
+    rw (c .before .after-name-file-line .ensures .0) at (c .after-text2 .ensures .0) ∙ sym (place-in (now (start .args .s)) (start .args .payload) 4 (sym (c .before .before .before .wide .ensures .0) ∙ c .before .before .match .keys3))
 
 returns-4 : tie.Need-returns-4
 returns-4 c =
     let start = c .before .before .before .before .before .before in
-    rw (c .before .behind-name-file-line2 .ensures .0) at (c .behind-text3 .ensures .0) ∙ sym (place-in (now (start .args .s)) (start .args .payload) 5 (sym (c .before .before .before .wide .ensures .0) ∙ c .before .before .match .keys4))
+    rw (c .before .after-name-file-line2 .ensures .0) at (c .after-text3 .ensures .0) ∙ sym (place-in (now (start .args .s)) (start .args .payload) 5 (sym (c .before .before .before .wide .ensures .0) ∙ c .before .before .match .keys4))
 
 returns-5 : tie.Need-returns-5
 returns-5 c =
     let start = c .before .before .before .before .before in
-    c .behind-name-file-line3 .ensures .0 ∙ sym (place-in (now (start .args .s)) (start .args .payload) 6 (sym (c .before .before .wide .ensures .0) ∙ c .before .match .keys5))
+    c .after-name-file-line3 .ensures .0 ∙ sym (place-in (now (start .args .s)) (start .args .payload) 6 (sym (c .before .before .wide .ensures .0) ∙ c .before .match .keys5))
 
 returns-6 : tie.Need-returns-6
 returns-6 c =
     let start = c .before .before .before .before .before in
-    c .behind-name-file-line4 .ensures .0 ∙ sym (place-in (now (start .args .s)) (start .args .payload) 7 (sym (c .before .before .wide .ensures .0) ∙ c .before .match .keys6))
+    c .after-name-file-line4 .ensures .0 ∙ sym (place-in (now (start .args .s)) (start .args .payload) 7 (sym (c .before .before .wide .ensures .0) ∙ c .before .match .keys6))
 
 returns-7 : tie.Need-returns-7
 returns-7 c =
@@ -86,7 +86,7 @@ returns-7 c =
 returns-8 : tie.Need-returns-8
 returns-8 c =
     let start = c .before .before .before .before .before .before in
-    rw (c .before .behind-name-file-line5 .ensures .0) at (c .behind-text4 .ensures .0) ∙ sym (place-in (now (start .args .s)) (start .args .payload) 9 (sym (c .before .before .before .wide .ensures .0) ∙ c .before .before .match .keys8))
+    rw (c .before .after-name-file-line5 .ensures .0) at (c .after-text4 .ensures .0) ∙ sym (place-in (now (start .args .s)) (start .args .payload) 9 (sym (c .before .before .before .wide .ensures .0) ∙ c .before .before .match .keys8))
 
 returns-9 : tie.Need-returns-9
 returns-9 c =
@@ -101,17 +101,17 @@ full-path-spec =
     shared-slice-read-wide
     wide-requires
     add-at
-    behind-two-texts-requires
-    behind-two-texts-requires-2
-    behind-text-requires
-    behind-name-file-line-requires
-    behind-text-requires-2
-    behind-name-file-line-requires-2
-    behind-text-requires-3
-    behind-name-file-line-requires-3
-    behind-name-file-line-requires-4
-    behind-name-file-line-requires-5
-    behind-text-requires-4
+    after-two-texts-requires
+    after-two-texts-requires-2
+    after-text-requires
+    after-name-file-line-requires
+    after-text-requires-2
+    after-name-file-line-requires-2
+    after-text-requires-3
+    after-name-file-line-requires-3
+    after-name-file-line-requires-4
+    after-name-file-line-requires-5
+    after-text-requires-4
     returns
     returns-2
     returns-3

@@ -2,7 +2,7 @@
 use native.Mathlib.Omega.{arith}
 use borrow.Author.Needs.{needs}
 use denote.Ref.{now}
-use Rattle.paths.proofs.Walk.{path-none, path-there, path-in}
+use Rattle.paths.proofs.Walk.{path-none, path-there}
 use Rattle.paths.proofs.pair.Statement.{statement}
 use Rattle.paths.proofs.pair.Tie as tie
 
@@ -13,7 +13,7 @@ returns : tie.Need-returns
 returns c = (rw (path-none (now (c .before .before .before .args .s)) (c .before .before .before .args .payload) (c .before .full-path .result) (c .before .full-path .ensures) (c .if1 .taken)), omega arith)
 
 same-text-requires : tie.Need-same-text-requires
-same-text-requires c κs = (c .before .before .before .pre .0, path-in (now (c .before .before .before .args .s)) (c .before .before .before .args .payload) (c .before .full-path .result) (c .before .full-path .ensures) (c .before .before .before .pre .1) (c .if1 .left))
+same-text-requires c κs = search needs
 
 returns-2 : tie.Need-returns-2
 returns-2 c =

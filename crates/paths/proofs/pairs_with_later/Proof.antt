@@ -3,7 +3,7 @@ use Prim.Native.Nat.{_-_}
 use native.Mathlib.Omega.{arith}
 use lib.ListN.{length}
 use denote.Ref.{now}
-use Rattle.paths.proofs.Walk.{path-in, Later, later-holds, later-step, later-again, later-ends, none-counted}
+use Rattle.paths.proofs.Walk.{Later, later-holds, later-step, later-again, later-ends, none-counted}
 use Rattle.paths.proofs.pairs_with_later.Statement.{statement}
 use Rattle.paths.proofs.pairs_with_later.Tie as tie
 
@@ -23,13 +23,13 @@ number-at-requires : tie.Need-number-at-requires Inv-loop μ-loop
 number-at-requires c κs = tt
 
 loop-holds : tie.Need-loop-holds Inv-loop μ-loop
-loop-holds c = later-holds (path-in (now (c .before .before .before .before .args .s)) (c .before .before .before .before .args .payload) (c .before .before .full-path .result) (c .before .before .full-path .ensures) (c .before .before .before .before .pre .0) (c .before .if1 .left)) (c .before .before .before .before .pre .1) (c .number-at .result) (c .number-at .ensures)
+loop-holds c = later-holds (c .before .before .full-path .result) (c .before .before .before .before .pre .1) (c .number-at .result) (c .number-at .ensures)
 
 add-other : tie.Need-add-other Inv-loop μ-loop
 add-other c = let t = later-step (c .before .loop .inv) (c .loop-test .taken) in omega (arith, t .payload-in .begins, t .payload-in .small)
 
 pair-requires : tie.Need-pair-requires Inv-loop μ-loop
-pair-requires c κs = (c .before .loop .inv .text, later-step (c .before .loop .inv) (c .loop-test .taken) .payload-in)
+pair-requires c κs = later-step (c .before .loop .inv) (c .loop-test .taken) .payload-in
 
 add-count : tie.Need-add-count Inv-loop μ-loop
 add-count c = omega (arith, c .before .before .loop .inv .bound, c .before .before .loop .inv .rest .inside, c .before .before .loop .inv .rest .small, c .pair .ensures .1)

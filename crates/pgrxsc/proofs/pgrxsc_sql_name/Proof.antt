@@ -1,5 +1,5 @@
 -- Where the name stands, in numbers.
-use Rattle.pgrxsc.specs.Numbers.{partNumbers}
+use Rattle.packing.specs.Numbers.{partNumbers}
 use mathlib.Core.Path.{ap, _∙_}
 use borrow.Author.Needs.{needs}
 use Rattle.pgrxsc.proofs.pgrxsc_sql_name.Statement.{statement}

@@ -1,7 +1,7 @@
 -- Where the text stands, in numbers.
 use mathlib.Core.Path.{ap, _∙_}
 use borrow.Author.Needs.{needs}
-use Rattle.pgrxsc.specs.Numbers.{placeNumbers, inBuffer}
+use Rattle.packing.specs.Numbers.{placeNumbers, inBuffer}
 use Rattle.pgrxsc.proofs.pgrxsc_sql_text.Statement.{statement}
 use Rattle.pgrxsc.proofs.pgrxsc_sql_text.Tie as tie
 

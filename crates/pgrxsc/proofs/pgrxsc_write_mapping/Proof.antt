@@ -3,7 +3,7 @@ use mathlib.Core.Path.{ap, _∙_}
 use denote.Ref.{now}
 use Rattle.layout.specs.Entities.{SqlMapping}
 use Rattle.entry_writer.specs.Refusals.{ExactWriting}
-use Rattle.pgrxsc.specs.Numbers.{lengthNumbers}
+use Rattle.packing.specs.Numbers.{lengthNumbers}
 use Rattle.pgrxsc.proofs.Numbers.{length-told}
 use borrow.Author.Needs.{needs}
 use Rattle.pgrxsc.proofs.pgrxsc_write_mapping.Statement.{statement}

@@ -1,4 +1,4 @@
--- From entry to entry, as long as whole ones stand there.
+-- From entry to entry, as long as there are whole ones.
 use Rattle.section.proofs.Entries.{Come, come-start, come-length, entry-fits, few-entities, leads, come-end}
 use Rattle.framing.specs.Places.{entryEnd}
 use Rattle.section.specs.Entry.{stage, staged}

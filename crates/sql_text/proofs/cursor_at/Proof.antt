@@ -1,4 +1,4 @@
--- A cursor that begins, at the byte.
+-- A new cursor, at the byte.
 use mathlib.Core.Path.{ap, _∙_}
 use borrow.Author.Needs.{needs}
 use Rattle.leaf.specs.State.{seek}

@@ -1,4 +1,4 @@
--- What stands where, told as a number and a place.
+-- Where the text is, given as a number and a place.
 use Rattle.sql_text.proofs.SqlText.{told}
 use Rattle.sql_text.specs.SqlText.{sqlText}
 use borrow.Author.Needs.{needs}

@@ -1,4 +1,4 @@
--- Clearing from i on clears what was to be cleared.
+-- Clearing from i on clears what is still to be cleared.
 use Prim.Native.Nat.{_-_}
 use native.Mathlib.Omega.{arith}
 use mathlib.Core.Path.{_≡_, refl, sym, _∙_}

@@ -1,4 +1,4 @@
--- No byte that was read is above the bits gathered so far.
+-- No byte read so far is above the bits collected so far.
 use Prim.Native.Nat.{ℕ, _≤_, _<_, _+_, _-_}
 use native.Mathlib.Nat.{le-trans, lt-of-le-of-lt}
 use native.Mathlib.Omega.{arith}

@@ -1,4 +1,4 @@
--- The first and the last bytes meet, or each byte is looked at.
+-- The first and the last bytes meet, or each byte is tested.
 use Rattle.text.proofs.Words.{ascii-ends}
 use borrow.Author.Tests.{eqb-true}
 use denote.Ref.{now}

@@ -1,4 +1,4 @@
--- Either all of the text is ASCII, or the walk goes on where ASCII ends. The part that is handed on is all of the text.
+-- Either the whole text is ASCII, or the walk continues where ASCII ends. The subslice that is passed on is the whole text.
 use Prim.Native.Nat.{ℕ}
 use mathlib.Core.List.{List}
 use mathlib.Core.Path.{_≡_, _∙_, ap, sym}

@@ -1,4 +1,4 @@
--- From a state by way of its code to a state.
+-- From a state to a state, by way of its code.
 use Prim.Native.Nat.{ℕ}
 use mathlib.Core.Path.{ap, _∙_}
 use mathlib.Core.List.{List}

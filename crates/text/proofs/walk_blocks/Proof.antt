@@ -1,4 +1,4 @@
--- x is the code of the state after the first i bytes, whether a block was walked or passed over.
+-- x is the code of the state after the first i bytes, whether a block was walked or skipped.
 use Prim.Native.Nat.{_+_, _-_, _≤_}
 use native.Mathlib.Omega.{arith}
 use lib.ListN.{length}

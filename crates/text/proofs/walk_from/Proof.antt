@@ -1,4 +1,4 @@
--- The tables have their rule: the test of it is computed here.
+-- The tables follow their rule: its test is computed here.
 use mathlib.Core.Path.{refl}
 use borrow.Author.Needs.{needs}
 use Rattle.text.specs.Walk.{step}

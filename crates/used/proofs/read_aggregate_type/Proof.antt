@@ -1,4 +1,4 @@
--- One, behind a text that may be missing.
+-- One, after an optional text.
 use Rattle.layout.specs.Entities.{AggregateType}
 use Rattle.used.proofs.Times.{once}
 use Rattle.used.proofs.read_aggregate_type.Statement.{statement}

@@ -1,4 +1,4 @@
--- One, behind a text.
+-- One, after a text.
 use Rattle.layout.specs.Entities.{PgExternArgument}
 use Rattle.used.proofs.Times.{once}
 use Rattle.used.proofs.read_pg_extern_argument.Statement.{statement}

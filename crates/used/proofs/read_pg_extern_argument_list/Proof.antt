@@ -1,4 +1,4 @@
--- A count, then as many.
+-- A count, then that many.
 use mathlib.Core.Path.{_∙_}
 use Rattle.layout.specs.Entities.{PgExternArgument, PgExternArgumentList}
 use Rattle.layout.proofs.Forms.{list-in}

@@ -1,4 +1,4 @@
--- One, with no name.
+-- One, without a name.
 use Rattle.used.proofs.Times.{once, unnamed}
 use Rattle.used.proofs.read_used_type.Statement.{statement}
 use Rattle.used.proofs.read_used_type.Tie as tie

@@ -1,4 +1,4 @@
--- With the thing, or without it.
+-- With the optional part, or without it.
 use Rattle.layout.specs.Entities.{OptionResolution}
 use Rattle.layout.proofs.Forms.{may-in, may-out}
 use Rattle.writer.proofs.option_resolution.Statement.{statement}

@@ -1,4 +1,4 @@
--- The count, then as many mappings.
+-- The count, then that many mappings.
 use Rattle.layout.specs.Entities.{SqlMappingList}
 use Rattle.layout.proofs.Forms.{list-in}
 use Rattle.writer.proofs.sql_mapping_list.Statement.{statement}

@@ -1,4 +1,4 @@
--- Each way out, by the tests before it.
+-- Each return, by the tests before it.
 use Prim.Native.Nat.{_*_}
 use native.Mathlib.Omega.{arith}
 use borrow.Author.Needs.{needs}

@@ -1,4 +1,4 @@
--- Refused, no such row, a text that leaves the lent bytes, a bad one, or a good one.
+-- Refused, no such row, a text outside the lent bytes, a bad one, or a good one.
 use Rattle.entry_writer.proofs.Row.{stays-within}
 use Rattle.entry_writer.proofs.Steps.{row-inside, refused-stays, text-none, text-outside, text-bad, text-good}
 use Rattle.entry_writer.specs.State.{consumeText}

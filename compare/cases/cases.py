@@ -1,0 +1,512 @@
+#!/usr/bin/env python3
+"""Writes the cases of the crate cases: its stdin, and its stdout with the counts and the tally.
+
+Run it after a change. It takes no arguments, and prints how many cases of each letter there are. The sources are the cases below,
+with answers by the rules of docs/FORMAT.md, and three files beside this script, whose lines README.md explains:
+
+- model.txt has answers of a model of the format that was written apart from this project and compared with the published Rust;
+- sample.txt has the published Rust's own answers, as `compare/run --sample 2000 --seed 3629` prints them;
+- rfc3629.txt has byte strings and whether they are UTF-8, as rfc3629.py writes them.
+
+Each case is taken once, and from some of them others are made:
+
+- Each reading that is accepted is followed by the same with a table of just as many rows, and with one of a row less, which 13
+  refuses.
+- For each section there are cases of the path report (R), which differ in how many numbers of work are lent: as many as there are
+  entities, as many as there are paths, one less, and none. Their pairs are counted here on the rows of the section's answer.
+  A section that is refused has one with none. If a section's length is a multiple of ten, there is one more: with the most work
+  that the crate lends, or with five numbers if the section is refused.
+- Each writing that is accepted is followed by the same with a destination of just the length, and with one of a byte less, which
+  17 refuses. Each writing but one that 17 refuses is also measured (V, v), with no destination.
+
+In stdin a case has its own length before it, a part stands as its bytes, a table to be written stands after the destination's size
+and the count of its numbers, the destination ends the answer after a refusal too, and = stands for the bytes of the case before.
+"""
+from collections import Counter
+from pathlib import Path
+
+HERE = Path(__file__).resolve().parent
+ANSWERED = ("model.txt", "sample.txt")
+CRATE = HERE.parents[1] / "crates" / "cases"
+
+READINGS = ("S", "P", "M", "G")  # a section; one payload, one metadata record, one mapping, each alone
+PARTS = ("T", "N", "Q")  # a row's text, the SQL name from a row, the SQL text of a mapping
+WRITINGS = ("W", "w")  # a metadata record, one mapping
+MEASURINGS = {"W": "V", "w": "v"}  # the same, measured
+# R is the path report; O is a section as objects; U is the text check
+LETTERS = READINGS + PARTS + ("R",) + WRITINGS + ("V", "v", "O", "U")
+LENGTH_DIGITS = 5
+MANY = 5461  # rows
+ROW_WIDTH = 3
+MOST_WORK = MANY * ROW_WIDTH + ROW_WIDTH - 1  # numbers
+SORTS = {"kind": 1, "tag": 2, "flag": 3, "number": 4, "count": 5, "text": 6}
+FULL_PATH = {2: 3, 3: 4, 4: 5, 5: 5, 6: 4, 7: 4, 8: 1, 9: 5}  # of each kind, how many rows after the kind's; a schema has none
+SENTINEL = "000400000070677278"
+
+# Custom SQL with empty texts and no requirement, and the count 1 of its declarations; the next byte is at 35
+CUSTOM_SQL = "02" + "00" * 30 + "01000000"
+CUSTOM_SQL_ROWS = "1 0 2 6 5 0 6 9 0 6 13 0 6 17 0 4 17 0 6 25 0 3 25 0 3 26 0 5 27 0 5 31 1"
+# A declaration of kind 1 with an empty name and an empty type_ident; its result is at 44
+DECLARED = CUSTOM_SQL + "01" + "00" * 8
+DECLARED_ROWS = CUSTOM_SQL_ROWS + " 2 35 1 6 40 0 6 44 0"
+
+ADDED = [
+    # Sections (FORMAT.md, Worked cases)
+    ("S", "1100000001" + "00" * 16, "accept 1 5 1 4 1 6 9 0 6 13 0 6 17 0 4 17 0"),
+    ("S", "-", "accept 0 0"),
+    ("S", "000000", "accept 0 0"),
+    ("S", "00000000", "accept 0 0"),
+    ("S", "09000000" + SENTINEL, "accept 0 0"),
+    ("S", "0001", "refuse 2 0"),
+    ("S", "0000000005", "refuse 3 0"),
+    ("S", "0200000001", "refuse 4 0"),
+    ("S", "010000000a", "refuse 8 4"),
+    ("S", "010000000a01", "refuse 2 5"),
+    ("S", "1200000001" + "00" * 17, "refuse 12 21"),
+    # One payload, record or mapping alone
+    ("P", "01" + "00" * 16, "accept 1 5 1 0 1 6 5 0 6 9 0 6 13 0 4 13 0"),
+    ("P", "01" + "00" * 17, "refuse 12 17"),
+    ("P", "0a", "refuse 8 0"),
+    ("P", SENTINEL, "refuse 8 0"),
+    ("P", "-", "refuse 5 0"),
+    ("P", DECLARED + "0201", "refuse 11 44"),
+    ("P", DECLARED + "020701000000ff", "refuse 7 50"),
+    ("P", DECLARED + "020705000000", "refuse 5 50"),
+    ("P", DECLARED + "0208", "refuse 9 45"),
+    ("P", DECLARED + "03", "refuse 9 44"),
+    ("P", DECLARED + "0102", "refuse 5 46"),
+    ("P", DECLARED + "010204", "refuse 10 44"),
+    ("P", DECLARED + "010205", "refuse 9 46"),
+    ("P", DECLARED + "0104", "refuse 10 44"),
+    ("P", DECLARED + "0105", "refuse 10 44"),
+    ("P", DECLARED + "010500", "refuse 10 44"),
+    ("P", DECLARED + "0106", "refuse 9 45"),
+    ("P", DECLARED + "010302", "refuse 6 46"),
+    ("P", DECLARED + "01010100000061", f"accept 1 17 {DECLARED_ROWS} 2 44 1 2 45 1 6 50 1"),
+    ("P", DECLARED + "0103000700000000ffffffff", f"accept 1 20 {DECLARED_ROWS} 2 44 1 2 45 3 3 46 0 4 47 7 3 51 0 4 52 4294967295"),
+    ("P", CUSTOM_SQL + "0901000000", "refuse 5 40"),
+    ("P", CUSTOM_SQL + "0900000000", "refuse 9 35"),
+    ("P", CUSTOM_SQL + "0301000000ff", "refuse 7 40"),
+    ("P", CUSTOM_SQL + "030100000061", f"accept 1 13 {CUSTOM_SQL_ROWS} 2 35 3 6 40 1"),
+    ("M", "000105010105", "accept 0 6 3 0 0 2 1 1 2 2 5 2 3 1 2 4 1 2 5 5"),
+    ("M", "0001050103ffffffff" + "05" * 11, "refuse 5 20"),
+    ("M", "0001050103ffffffff" + "05" * 10 + "06", "refuse 9 19"),
+]
+
+# Rows: letter, bytes, sort, offset, value, answer
+ADDED_ROWS = [
+    ("N", b"a:::b", 6, 0, 5, "part 3 2"),
+    ("N", b"a::", 6, 0, 3, "part 3 0"),
+    ("N", b"abc", 6, 0, 3, "part 0 3"),
+    ("N", b"::::", 6, 0, 4, "part 4 0"),
+    ("N", b":::", 6, 0, 3, "part 2 1"),
+    ("N", b"a::b", 6, 0, 2, "part 0 2"),
+    ("N", b"a::b", 4, 0, 4, "refuse 15 0"),
+    ("T", b"abc", 6, 1, 2, "part 1 2"),
+    ("T", b"abc", 6, 1, 3, "refuse 15 0"),
+    ("T", b"abc", 6, 3, 0, "part 3 0"),
+    ("T", b"abc", 6, 4, 0, "refuse 15 0"),
+    ("T", b"", 6, 0, 0, "part 0 0"),
+    ("T", b"\xc3\xa9", 6, 1, 1, "refuse 15 0"),
+]
+
+# Numeric mappings: the bytes after the tag, and the SQL text
+ADDED_NUMERIC = [
+    ("010a0000000102000000", b"NUMERIC(10, 2)"),
+    ("00000000000105000000", b"NUMERIC"),
+    ("00090000000105000000", b"NUMERIC"),
+    ("010a0000000002000000", b"NUMERIC(10)"),
+    ("01ffffffff01ffffffff", b"NUMERIC(4294967295, 4294967295)"),
+]
+
+# The rows of a record (FORMAT.md, Worked cases), the first rows of one that returns a table, and the rows of one with 1024 columns,
+# up to the last column's text. If that has 16370 bytes, the record has 16,777,216
+RECORD = "3,0,0 2,1,1 2,2,5 2,3,1 2,4,1 2,5,5"
+RETURNS_TABLE = "3,0,0 2,0,2 2,0,1 2,0,1 2,0,3"
+LONG = RETURNS_TABLE + " 5,0,1024" + " 2,0,1 6,0,16379" * 1023 + " 2,0,1"
+LONG_TEXT = b"a" * 16379
+
+# Writings: letter, table, lent text, and what is written; the destination has three bytes more
+ADDED_WRITES = [
+    ("W", RECORD, b"", "000105010105"),
+    # The offsets of other rows than texts
+    ("W", "3,9,0 2,9,1 2,9,5 2,4294967295,1 2,0,1 2,9,5", b"", "000105010105"),
+    # Other tags
+    ("W", "3,0,1 6,1,2 2,0,2 2,0,1 2,0,1 6,0,1 2,0,1 2,0,2 2,0,4", b"abc", "010200000062630201010100000061010204"),
+    ("W", "3,0,0 2,0,2 2,0,7 6,3,0 2,0,2 2,0,10", b"abc", "00020700000000020a"),
+    ("W", RETURNS_TABLE + " 5,0,0", b"", "000201010300000000"),
+    ("W", RETURNS_TABLE + " 5,0,2 2,0,4 2,0,5", b"", "0002010103020000000405"),
+    ("w", "2,0,5", b"", "05"),
+    ("w", "2,0,2 2,0,1 6,1,2", b"abc", "0201020000006263"),
+    # Texts at the end of the lent bytes, one between bytes that are no text, and one with the bytes of another
+    ("w", "2,0,1 6,3,0", b"abc", "0100000000"),
+    ("w", "2,0,1 6,0,3", b"abc", "0103000000616263"),
+    ("w", "2,0,1 6,0,0", b"", "0100000000"),
+    ("w", "2,0,1 6,1,2", b"\xffab\xff", "01020000006162"),
+    ("W", "3,0,1 6,0,2 2,0,1 2,0,1 2,0,1 6,1,2 2,0,2 2,0,1", b"abc", "010200000061620101010200000062630201"),
+    # Unused numbers
+    ("w", "2,0,3 3,0,0 4,0,7 3,0,0 4,0,4294967295", b"", "03000700000000ffffffff"),
+    ("w", "2,0,2 2,0,3 3,0,0 4,0,9 3,0,1 4,0,256", b"", "020300090000000100010000"),
+]
+
+# Writings that are refused: letter, table, lent text, the destination's size, and the number
+ADDED_REFUSED_WRITES = [
+    # Tables that are empty, no whole rows, too short or too long
+    ("W", "", b"", 9, 14),
+    ("w", "", b"", 0, 14),
+    ("W", RECORD + " 0", b"", 9, 14),
+    ("W", RECORD + " 0,0", b"", 9, 14),
+    ("W", RECORD + " 0,0,0", b"", 9, 14),
+    ("W", RECORD + " 2,5,5", b"", 9, 14),
+    ("W", RECORD[:-6], b"", 9, 14),
+    ("W", RECORD[:-4], b"", 9, 14),
+    ("W", RECORD[:-2], b"", 9, 14),
+    ("w", "2,0,5 0,0,0", b"", 9, 14),
+    ("W", "2,0,5", b"", 9, 14),
+    ("w", RECORD, b"", 9, 14),
+    # Sorts and values that are right in their last bytes only
+    ("w", "258,0,5", b"", 9, 14),
+    ("w", "65538,0,5", b"", 9, 14),
+    ("w", "2,0,257 6,0,0", b"", 9, 14),
+    ("w", "2,0,261", b"", 9, 14),
+    ("w", "2,0,65541", b"", 9, 14),
+    ("w", "2,0,16777221", b"", 9, 14),
+    ("w", "2,0,1 262,0,0", b"", 9, 14),
+    ("w", "2,0,3 3,0,256 4,0,0 3,0,0 4,0,0", b"", 19, 14),
+    ("W", "3,0,256 2,1,1 2,2,5 2,3,1 2,4,1 2,5,5", b"", 9, 14),
+    # Other sorts than are due
+    ("w", "1,0,5", b"", 9, 14),
+    ("w", "257,0,5", b"", 9, 14),
+    ("w", "6,0,5", b"abcde", 9, 14),
+    ("w", "2,0,1 4,0,0", b"", 9, 14),
+    ("w", "2,0,3 3,0,0 5,0,0 3,0,0 4,0,0", b"", 19, 14),
+    ("W", RETURNS_TABLE + " 4,0,0", b"", 19, 14),
+    # Unknown tags and flags
+    ("w", "2,0,0", b"", 9, 14),
+    ("w", "2,0,6", b"", 9, 14),
+    ("w", "2,0,2 2,0,2 2,0,4", b"", 9, 14),
+    ("w", "2,0,2 2,0,5", b"", 9, 14),
+    ("w", "2,0,3 3,0,0 4,0,0 3,0,2 4,0,0", b"", 19, 14),
+    ("W", "3,0,1 6,0,0 2,0,3 2,0,2 2,0,1 2,0,2 2,0,1", b"", 19, 14),
+    ("W", "3,0,0 2,0,2 2,0,8 2,0,2 2,0,1", b"", 9, 14),
+    ("W", "3,0,0 2,0,2 2,0,1 2,0,2 2,0,11", b"", 9, 14),
+    ("W", "3,0,0 2,0,2 2,0,1 2,0,3 2,0,1", b"", 9, 14),
+    ("W", "3,0,0 2,0,2 2,0,1 2,0,1 2,0,4", b"", 9, 14),
+    # Counts of other lists
+    ("W", RETURNS_TABLE + " 5,0,1 2,0,4 2,0,5", b"", 19, 14),
+    ("W", RETURNS_TABLE + " 5,0,3 2,0,4 2,0,5", b"", 19, 14),
+    ("W", RETURNS_TABLE + " 5,0,4294967295 2,0,5", b"", 19, 14),
+    # Texts that leave the lent bytes, and parts of a character
+    ("w", "2,0,1 6,4,0", b"abc", 9, 15),
+    ("w", "2,0,1 6,1,3", b"abc", 9, 15),
+    ("w", "2,0,1 6,1,4294967295", b"abc", 9, 15),
+    ("w", "2,0,1 6,4294967295,1", b"abc", 9, 15),
+    ("w", "2,0,1 6,4294967295,4294967295", b"abc", 9, 15),
+    ("w", "2,0,1 6,0,1", b"\xc3\xa9", 9, 15),
+    ("w", "2,0,1 6,1,1", b"\xc3\xa9", 9, 15),
+    ("W", "3,0,1 6,0,0 2,0,1 2,0,1 2,0,1 6,0,4 2,0,2 2,0,1", b"abc", 99, 15),
+    ("W", "3,0,1 6,0,4 2,0,1 2,0,1 2,0,1 6,0,0 2,0,2 2,0,1", b"abc", 99, 15),
+    # Where more than one number is met
+    ("W", "3,0,1 6,0,4 2,0,1 2,0,1 2,0,1 6,0,0 2,0,2 2,0,11", b"abc", 99, 14),
+    ("W", "3,0,1 6,0,4 2,0,1 2,0,1 2,0,1 6,0,0 2,0,2 2,0,1 0", b"abc", 99, 14),
+    ("w", "2,0,1 6,4,0 0,0,0", b"abc", 0, 14),
+    ("w", "2,0,1 6,4,0", b"abc", 0, 15),
+    # Lengths above the limit, and the limit itself
+    ("W", LONG + " 6,0,16371", LONG_TEXT, 9, 16),
+    ("W", LONG + " 6,0,16370", LONG_TEXT, 9, 17),
+    ("W", LONG + " 6,0,16380", LONG_TEXT, 9, 15),
+]
+
+
+def flags(*values):
+    return [("flag", value) for value in values]
+
+
+def tags(*values):
+    return [("tag", value) for value in values]
+
+
+def entity(kind, path, module=b"m", used=b"u"):
+    """The leaves of an entity of that kind, with that full_path; an aggregate's state has a type with the full_path used."""
+    path, module, used = ("text", path), ("text", module), ("text", used)
+    name, file, line, ident = ("text", b"n"), ("text", b"f.rs"), ("number", 7), ("text", b"i")
+    none = ("count", 0)
+    to_sql = flags(1, 0)
+    skip = [*flags(0), *tags(1, 5, 1, 1, 5)]
+    fields = {
+        1: [module, name, file, line],
+        2: [ident, module, path, file, line, name, *flags(0, 1), none, none],
+        3: [name, name, module, path, none, *tags(1), *flags(0), file, line, none, *flags(0, 0, 0), *to_sql],
+        4: [name, file, line, module, path, ident, name, name, *flags(0, 0), *to_sql, *flags(0)],
+        5: [name, file, line, module, path, ident, ("count", 2), name, path, *to_sql],
+        6: [name, file, line, path, module, ident, *to_sql],
+        7: [name, file, line, path, module, ident, *to_sql],
+        8: [path, module, file, line, name, *flags(0), none, *flags(0, 0), ident, used, *flags(0, 0, 0, 0), *skip, name]
+        + [*flags(*[0] * 15), *to_sql],
+        9: [name, file, line, module, path, *to_sql],
+    }
+    return [("kind", kind), *fields[kind]]
+
+
+# Sections for the path report. None is a sentinel
+ADDED_SECTIONS = [
+    [entity(2, b"a::p"), entity(3, b"a::p"), entity(4, b"a::p")],
+    [entity(6, b"p"), entity(7, b"q")],
+    [entity(6, b"p", b"m"), entity(7, b"p", b"k")],
+    [entity(7, b"p"), entity(7, b"p"), entity(6, b"q"), entity(6, b"q")],
+    [entity(kind, b"p", b"p") for kind in range(1, 10)],
+    [entity(kind, b"p%d" % kind, b"p") for kind in range(1, 10)],
+    [entity(1, b"", b"p"), entity(1, b"", b"p")],
+    [None, entity(6, b"p"), None, None, entity(1, b"", b"p"), entity(9, b"p"), None, entity(5, b"p"), None],
+    [entity(4, b"p", b"q"), entity(6, b"q", b"p")],
+    [entity(8, b"p", b"m", b"q"), entity(3, b"q"), entity(9, b"m")],
+    [entity(8, b"p", b"m", b"q"), entity(8, b"r", b"m", b"q")],
+    [entity(2, b""), entity(9, b"")],
+    [entity(5, b"ab"), entity(5, b"a"), entity(5, b"abc"), entity(5, b"ac"), entity(5, b"bb")],
+    [entity(3, b"p"), entity(4, b"q"), entity(5, b"p"), entity(9, b"q")],
+    [entity(2 + number % 8, b"p", b"%d" % number) for number in range(20)],
+]
+
+# Paths for the sorting, and how often each is there: 40 together, in runs of 1, 2, 3 and 7
+RUNS = [
+    (b"", 2),
+    (b"a", 1),
+    (b"a::b", 7),
+    (b"a::b::c", 3),
+    (b"a::c", 1),
+    (b"b", 2),
+    (b"ba", 3),
+    (b"m::first", 7),
+    (b"m::firsu", 1),
+    (b"m::second", 2),
+    (b"z" * 39 + b"y", 3),
+    (b"z" * 40, 7),
+    ("\u00e9".encode(), 1),
+]
+
+
+def entities_with(paths):
+    return [entity(2 + number % 8, path) for number, path in enumerate(paths)]
+
+
+def sorted_sections():
+    """Sections whose paths stand in several orders."""
+    rising = [path for path, count in RUNS for _ in range(count)]
+    scattered = [rising[number * 17 % len(rising)] for number in range(len(rising))]
+    for paths in (rising, rising[::-1], scattered, sorted(scattered, key=len)):
+        yield entities_with(paths)
+    # All different: in the last byte alone, each a prefix of the next, and bytes above 127 among others
+    last = [b"exercise::note_%x" % number for number in range(16)]
+    prefixes = [b"exercise"[:length] for length in range(9)]
+    bytewise = [text.encode() for text in ("z", "\u00ff", "a", "\u0080", "\U00010000", "\u00e9", "\x00", "")]
+    for paths in (last, prefixes, bytewise):
+        yield entities_with(paths)
+        yield entities_with(paths[::-1])
+        yield entities_with(paths + paths[:1])
+    # One pair, of the first and the last, among 2 to 9
+    for count in range(2, 10):
+        yield entities_with([b"%d" % (number % (count - 1)) for number in range(count)])
+        yield entities_with([b"%d" % (-number % (count - 1)) for number in range(count)])
+    # With schemas, which have no path
+    yield [entity(1, b""), entity(9, b"b"), entity(1, b""), entity(9, b"a"), entity(1, b""), entity(3, b"b"), entity(1, b"")]
+
+
+def hexadecimal(octets):
+    return octets.hex() or "-"
+
+
+def octets_of(field):
+    return bytes.fromhex(field.replace("-", ""))
+
+
+def four(number):
+    return number.to_bytes(4, "little")
+
+
+def section(items, padding):
+    """The bytes of a section, and the answer to its reading."""
+    octets, rows = b"", []
+    for item in items:
+        if item is None:
+            octets += four(9) + bytes.fromhex(SENTINEL)
+            continue
+        start, payload = len(octets) + 4, b""
+        for sort, value in item:
+            at = start + len(payload)
+            if sort == "text":
+                payload += four(len(value)) + value
+                at, value = at + 4, len(value)
+            else:
+                payload += four(value) if sort in ("number", "count") else bytes([value])
+            rows += [SORTS[sort], at, value]
+        octets += four(len(payload)) + payload
+    entities = len(items) - items.count(None)
+    answer = ["accept", entities, len(rows) // ROW_WIDTH, *rows]
+    return octets + bytes(padding), " ".join(map(str, answer))
+
+
+def answered():
+    """The cases as lines of the files, and those added."""
+    for name in ANSWERED:
+        yield from (HERE / name).read_text().splitlines()
+    for letter, field, answer in ADDED:
+        yield f"{letter} {MANY} {field} {answer}"
+    for padding, items in enumerate([*ADDED_SECTIONS, *sorted_sections()]):
+        octets, answer = section(items, padding)
+        yield f"S {MANY} {hexadecimal(octets)} {answer}"
+    for letter, octets, sort, offset, value, answer in ADDED_ROWS:
+        yield f"{letter} {hexadecimal(octets)} {sort} {offset} {value} {answer}"
+    for numbers, text in ADDED_NUMERIC:
+        yield f"Q ff03{numbers}ff 1 31 buffer 0 {len(text)} {text.hex()}{'ee' * (31 - len(text))}"
+    for letter, table, text, written in ADDED_WRITES:
+        length = len(octets_of(written))
+        yield f"{letter} {table.replace(' ', ',')} {hexadecimal(text)} {length + 3} wrote {length} {written}{untouched(3)}"
+    for letter, table, text, size, number in ADDED_REFUSED_WRITES:
+        yield f"{letter} {table.replace(' ', ',') or '-'} {hexadecimal(text)} {size} refuse {number} 0"
+    for line in (HERE / "rfc3629.txt").read_text().splitlines():
+        if not line.startswith("#"):
+            *octets, answer = line.split(" ")
+            yield f"U {''.join(octets)} {answer}"
+
+
+def reading(line):
+    """A case of reading, and the same with other tables."""
+    letter, rows, field, verdict, *numbers = line.split(" ")
+    if verdict == "refuse":
+        yield f"{letter} {rows} {field} {' '.join(numbers)}"
+        return
+    needed = int(numbers[1])
+    assert needed <= int(rows) <= MANY and len(numbers) == 2 + ROW_WIDTH * needed, line
+    for size in (rows, needed):
+        yield f"{letter} {size} {field} 0 0 {' '.join(numbers)}"
+    if needed > 0:
+        yield f"{letter} {needed - 1} {field} 13 0"
+
+
+def row_part(line):
+    letter, field, sort, offset, value, verdict, *numbers = line.split(" ")
+    first, second = map(int, numbers)
+    answer = f"{first} {second} -"
+    if verdict == "part":
+        answer = f"0 0 {part(field, first, second)}"
+    return f"{letter} {sort},{offset},{value} {field} {answer}"
+
+
+def sql_text(line):
+    letter, field, offset, size, verdict, first, second, *rest = line.split(" ")
+    answer = f"{first} {second} - {untouched(int(size))} {first} {second}"
+    if verdict != "refuse":
+        answer = f"0 0 {part(field if verdict == 'section' else rest[0], int(first), int(second))} {rest[0]} 0 0"
+    return f"{letter} {offset},{size} {field} {answer}"
+
+
+def part(field, start, length):
+    octets = octets_of(field)
+    assert start + length <= len(octets)
+    return hexadecimal(octets[start : start + length])
+
+
+def untouched(size):
+    """A buffer of that size as it was lent."""
+    return "ee" * size or "-"
+
+
+def writing(line):
+    """A case of writing, and the same with other destinations."""
+    letter, table, field, size, verdict, first, second = line.split(" ")
+    numbers = [] if table == "-" else table.split(",")
+
+    def case(room, answer):
+        return f"{letter} {','.join([str(room), str(len(numbers)), *numbers])} {field} {answer}"
+
+    if verdict == "refuse":
+        yield case(size, f"{first} {second} {untouched(int(size))}")
+        return
+    length = int(first)
+    written = second[: 2 * length]
+    assert second == written + "ee" * (int(size) - length), line
+    yield case(size, f"0 0 {length} {second}")
+    yield case(length, f"0 0 {length} {written}")
+    yield case(length - 1, f"17 0 {untouched(length - 1)}")
+
+
+def measuring(line):
+    """The case of measuring what a writing was given, unless only the destination was refused."""
+    letter, table, field, _, verdict, first, _ = line.split(" ")
+    numbers = [] if table == "-" else table.split(",")
+    if verdict != "refuse" or first != "17":
+        answer = f"{first} 0" if verdict == "refuse" else f"0 0 {first}"
+        yield f"{MEASURINGS[letter]} {','.join(['0', str(len(numbers)), *numbers])} {field} {answer} -"
+
+
+def path_report(line):
+    """The cases of the path report for a section, unless only the table was refused."""
+    letter, rows, field, verdict, *numbers = line.split(" ")
+    if numbers[0] == "13" and verdict == "refuse":
+        return
+    octets = octets_of(field)
+    works, answer = [0], " ".join(numbers)
+    if verdict == "accept":
+        paths = full_paths(octets, list(map(int, numbers[2:])))
+        works = [int(numbers[0]), len(paths), max(len(paths) - 1, 0), 0]
+        answer = f"0 0 {sum(count * (count - 1) // 2 for count in Counter(paths).values())}"
+    if len(octets) % 10 == 0:
+        works.append(MOST_WORK if verdict == "accept" else 5)
+    for work in works:
+        yield f"R {work} {field} {answer}"
+
+
+def full_paths(octets, numbers):
+    """The full_path of each entity that has one, from the rows of a section."""
+    rows = [numbers[at : at + ROW_WIDTH] for at in range(0, len(numbers), ROW_WIDTH)]
+    paths = []
+    for at, (sort, _, kind) in enumerate(rows):
+        if sort == SORTS["kind"] and kind in FULL_PATH:
+            sort, offset, length = rows[at + FULL_PATH[kind]]
+            assert sort == SORTS["text"]
+            paths.append(octets[offset : offset + length])
+    return paths
+
+
+def cases():
+    for line in answered():
+        letter = line[0]
+        assert letter in LETTERS, line
+        if letter in READINGS:
+            yield from reading(line)
+        if letter == "S":
+            yield from path_report(line)
+        if letter in ("T", "N"):
+            yield row_part(line)
+        if letter == "Q":
+            yield sql_text(line)
+        if letter in WRITINGS:
+            yield from writing(line)
+            yield from measuring(line)
+        if letter in ("O", "U"):
+            yield f"{letter} 0 {line[2:]}"
+
+
+def shortened(lines):
+    """The lines, with = for bytes that are those of the line before."""
+    before = None
+    for line in lines:
+        letter, numbers, field, answer = line.split(" ", 3)
+        yield " ".join([letter, numbers, "=" if field == before else field, answer])
+        before = field
+
+
+def main():
+    lines = list(dict.fromkeys(cases()))
+    assert all(len(line) < 10**LENGTH_DIGITS for line in lines)
+    tally = Counter(line.split(" ")[3] == "0" for line in lines if line[0] == "S")
+    stdin = [f"{len(line):0{LENGTH_DIGITS}} {line}" for line in shortened(lines)]
+    stdout = [f"cases {len(lines)}", "differ 0", f"tally {tally[True]} {tally[False]}"]
+    for name, written in (("stdin", stdin), ("stdout", stdout)):
+        (CRATE / name).write_text("\n".join(written) + "\n")
+    letters = Counter(line[0] for line in lines)
+    print(" ".join(f"{letter} {letters[letter]}" for letter in LETTERS))
+
+
+if __name__ == "__main__":
+    main()

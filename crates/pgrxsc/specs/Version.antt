@@ -1,0 +1,6 @@
+-- The version of the functions that programs link.
+use Prim.Native.Nat.{ℕ}
+
+-- It grows by one when a function, a row or a refusal changes
+abbrev pub version : ℕ
+version = 1

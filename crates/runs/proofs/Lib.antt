@@ -1,0 +1,5 @@
+pub mod Text
+pub mod Ordering
+pub mod Swaps
+pub mod Count
+pub mod OneByOne

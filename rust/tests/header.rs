@@ -1,0 +1,102 @@
+//! The crate beside `include/pgrxsc.h`: the same constants, and the same functions.
+
+use pgrxsc::{EntityKind, RefusalKind, Sort, LIMIT, ROW_WIDTH, SQL_TEXT_SIZE, VERSION};
+use std::collections::{BTreeMap, BTreeSet};
+use std::fmt::Debug;
+
+const HEADER: &str = include_str!("../../include/pgrxsc.h");
+const FFI: &str = include_str!("../src/ffi.rs");
+
+/// Adds the names that numbers have, after a prefix. A name of the crate, as `CustomSql`, is
+/// `CUSTOM_SQL` in the header.
+fn add<T: Debug>(
+    constants: &mut BTreeMap<String, u64>,
+    prefix: &str,
+    from_number: fn(u32) -> Option<T>,
+) {
+    for number in 0..1000 {
+        let Some(value) = from_number(number) else {
+            continue;
+        };
+        let mut name = String::new();
+        for letter in format!("{value:?}").chars() {
+            if letter.is_uppercase() {
+                name.push('_');
+            }
+            name.push(letter.to_ascii_uppercase());
+        }
+        constants.insert(format!("{prefix}{name}"), number.into());
+    }
+}
+
+fn numbered() -> BTreeMap<String, u64> {
+    let mut constants = BTreeMap::new();
+    add(&mut constants, "PGRXSC_SORT", Sort::from_number);
+    add(&mut constants, "PGRXSC_KIND", EntityKind::from_number);
+    add(&mut constants, "PGRXSC_REFUSAL", RefusalKind::from_number);
+    constants
+}
+
+#[test]
+fn constants() {
+    let mut expected = numbered();
+    assert_eq!(expected.len(), 6 + 9 + 17);
+    expected.insert("PGRXSC_VERSION".into(), VERSION.into());
+    expected.insert("PGRXSC_LIMIT".into(), LIMIT as u64);
+    expected.insert("PGRXSC_ROW_WIDTH".into(), ROW_WIDTH as u64);
+    expected.insert("PGRXSC_SQL_TEXT_SIZE".into(), SQL_TEXT_SIZE as u64);
+
+    let mut header = BTreeMap::new();
+    for line in HEADER.lines() {
+        let Some(define) = line.strip_prefix("#define ") else {
+            continue;
+        };
+        // The guard alone has no value.
+        let Some((name, value)) = define.split_once(' ') else {
+            assert_eq!(define, "PGRXSC_H");
+            continue;
+        };
+        let value = value.parse().unwrap_or_else(|_| panic!("{line}"));
+        assert_eq!(header.insert(name.to_string(), value), None, "{line}");
+    }
+    assert_eq!(header, expected);
+}
+
+/// The tables in the header's first comment have each name, after its number.
+#[test]
+fn tables() {
+    let (comment, _) = HEADER.split_once("*/").unwrap();
+    let words: Vec<&str> = comment.split_whitespace().collect();
+    for (constant, number) in numbered() {
+        let (_, name) = constant
+            .strip_prefix("PGRXSC_")
+            .and_then(|name| name.split_once('_'))
+            .unwrap();
+        let mut places = words.windows(2).filter(|pair| pair[1] == name);
+        assert_eq!(
+            places.next().map(|pair| pair[0]),
+            Some(number.to_string().as_str()),
+            "{constant}"
+        );
+        assert!(places.next().is_none(), "{constant}");
+    }
+}
+
+/// The names that stand before a parenthesis.
+fn functions(text: &str) -> BTreeSet<&str> {
+    let ends = text.match_indices('(').map(|(end, _)| &text[..end]);
+    let names = ends.map(|before| {
+        let start = before.rfind(|c: char| !c.is_ascii_alphanumeric() && c != '_');
+        &before[start.map_or(0, |start| start + 1)..]
+    });
+    names.filter(|name| name.starts_with("pgrxsc_")).collect()
+}
+
+#[test]
+fn declarations() {
+    let (_, after_comment) = HEADER.split_once("*/").unwrap();
+    let (_, archive) = FFI.split_once("extern \"C\" {").unwrap();
+    let (archive, _) = archive.split_once("\n    }\n").unwrap();
+    assert_eq!(functions(archive), functions(after_comment));
+    assert!(functions(archive).contains("pgrxsc_version"));
+}

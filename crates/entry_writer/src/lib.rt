@@ -9,8 +9,9 @@ ghost use mathlib.Core.Path.{_≡_};
 ghost use Prim.Native.Nat.{_+_, _^_, _<_, _≤_};
 ghost use lib.Dec.{leb};
 ghost use lib.ListN.{length};
-ghost use Rattle.layout.specs.Layout.{Tag, Flag, Number, Count, one};
+ghost use Rattle.layout.specs.Layout.{Kind, Tag, Flag, Number, Count, one};
 ghost use Rattle.layout.specs.Layout as layouts;
+ghost use Rattle.layout.specs.Entities.{OptionStr, OptionU32};
 ghost use Rattle.layout.specs.Answers.{wholeRows};
 ghost use Rattle.table.specs.Answers.{uncounted};
 ghost use Rattle.length.specs.Length.{lengthOf};
@@ -114,7 +115,14 @@ impl EntryWriter {
         self.past(row.value, size)
     }
 
-    // This and the next four take the next row, from the lent rows and text bytes. Here: a tag.
+    // This and the next five take the next row, from the lent rows and text bytes. Here: the kind of an entity.
+    pub fn kind(self, rows: &[u32], text: &[u8]) -> EntryWriter
+        ensures { λ r. ⌜ r ≡ consume (one Kind) (now (rows .entry)) (now (text .entry)) self ⌝ }
+    {
+        self.number(rows, layout::SORT_KIND, 256, 1)
+    }
+
+    // Another tag.
     pub fn u8(self, rows: &[u32], text: &[u8]) -> EntryWriter
         ensures { λ r. ⌜ r ≡ consume (one Tag) (now (rows .entry)) (now (text .entry)) self ⌝ }
     {
@@ -163,6 +171,28 @@ impl EntryWriter {
             return self.spoiled();
         }
         self.past(row.value, 4 + size)
+    }
+
+    // An optional text: a flag, then the text if the flag is 1.
+    pub fn option_str(self, rows: &[u32], text: &[u8]) -> EntryWriter
+        ensures { λ r. ⌜ r ≡ consume OptionStr (now (rows .entry)) (now (text .entry)) self ⌝ }
+    {
+        let w = self.bool(rows, text);
+        if w.value != 0 {
+            return w.str(rows, text);
+        }
+        w
+    }
+
+    // An optional number.
+    pub fn option_u32(self, rows: &[u32], text: &[u8]) -> EntryWriter
+        ensures { λ r. ⌜ r ≡ consume OptionU32 (now (rows .entry)) (now (text .entry)) self ⌝ }
+    {
+        let w = self.bool(rows, text);
+        if w.value != 0 {
+            return w.u32(rows, text);
+        }
+        w
     }
 
     // The answer at the end: 14 unless all rows were taken; 15; 16; or the length.

@@ -2,10 +2,11 @@ pub mod Along
 pub mod Still
 pub mod Steps
 pub mod Spelled
+pub mod Exact
 pub mod Offsets
 pub mod Measured
 pub mod Row
 pub mod Stored
+pub mod Entries
 pub mod RoundTrips
-pub mod Exact
 pub mod Passes

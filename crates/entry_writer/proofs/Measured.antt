@@ -1,27 +1,28 @@
 -- A writing from the first row on: its result in terms of the rows, and its length at the end.
-use Prim.Native.Nat.{ℕ, suc, _+_, _*_, _≤_, _<_}
+use Prim.Native.Nat.{ℕ, suc, _+_, _*_, _<_}
 use native.Mathlib.Nat.{add-zero}
 use native.Mathlib.Omega.{arith}
-use mathlib.Core.Bool.{Bool, true, false, cond, not, _&&_, _||_, or-true, or-false}
+use mathlib.Core.Bool.{Bool, true, false, cond, not, _&&_, _||_, or-true, or-false, and-eq-true-iff}
 use mathlib.Core.List.{List, [], _∷_}
 use mathlib.Core.Path.{_≡_, refl, sym, ap, subst, _∙_}
 use lib.Dec.{eqb, ltb, leb}
 use lib.ListN.{length, length-append}
 use borrow.Author.Tests.{eqb-true, eq-eqb, ne-eqb, leb-false, lt-leb}
-use Rattle.layout.specs.Layout.{Sort, Leaf, plain, string, Layout, Value, leaves, bound}
+use Rattle.layout.specs.Layout.{Sort, Leaf, plain, string, Layout, Value, leaves, Meets, bound}
 use Rattle.layout.specs.Written.{textSort, leafBytes, bytesOf, bytes, rowWidth, sortNumber, sortAt, valueAt}
 use Rattle.layout.specs.Reading.{Outcome, ok, refuse, _>>=_, need, walk, leavesAt, utf8}
 use Rattle.layout.specs.Answers.{limit, wholeRows}
+use Rattle.layout.proofs.Walk.{All, all-ok}
 use Rattle.layout.proofs.Follow.{Gait, Keeps, pushAll, Follows, moved, stops, moved-of, stops-of, follow}
 use Rattle.table.specs.Answers.{counted, uncounted}
 use Rattle.entry_writer.specs.Rows.{isRow, plainIn, lentAt, textIn, inRows, staysAt, goodAt, goodRows}
-use Rattle.entry_writer.specs.Writing.{fourteen, spelled, measured, lengthIn}
-use Rattle.entry_writer.specs.Refusals.{RowGives}
+use Rattle.entry_writer.specs.Writing.{fourteen, wholly, spelled, measuredAs, measured, lengthIn}
+use Rattle.entry_writer.specs.Refusals.{RowGives, Sized}
 use Rattle.entry_writer.specs.State.{newWriter, stoppedWriter, stoppedOnce, past, arrivePlain, pastText, arriveText, consumePlain, consumeText}
 use Rattle.entry_writer.specs.declared.EntryWriter.{EntryWriter}
 use Rattle.entry_writer.specs.Run.{writer, consume, closing}
 use Rattle.entry_writer.proofs.Still.{goes-on, writer-still}
-use Rattle.entry_writer.proofs.Spelled.{plain-not-text, Given, given-there, whole-rows, walk-sound, good-sound}
+use Rattle.entry_writer.proofs.Spelled.{plain-not-text, Given, Begins, whole-rows, walk-sound}
 
 module _ (rows text : List ℕ) where
   -- The writer finds a text good
@@ -124,10 +125,6 @@ module _ (rows text : List ℕ) where
   found-good : (t : List ℕ) (w : EntryWriter) → RowGives rows text (w .row) (string t) → passes rows text t w ≡ goodAt rows text (w .row)
   found-good t w g = rw (eq-eqb (sortAt rows (w .row)) textSort (g .0), g .1)
 
-  refusal-all : (ls : List Leaf) (w : EntryWriter) → pushAll (push rows text) ls w .refusal ≡ w .refusal
-  refusal-all [] w = refl
-  refusal-all (x ∷ ls) w = refusal-all ls (push rows text x w) ∙ push-refusal rows text x w
-
   -- A bad text is remembered
   bad-after : (x : Leaf) (w : EntryWriter) → RowGives rows text (w .row) x → push rows text x w .bad ≡ (w .bad || not (goodAt rows text (w .row)))
   bad-after (plain srt n) w g = rw (plain-good srt (w .row) (g .0)) (sym (or-false (w .bad)))
@@ -137,95 +134,83 @@ module _ (rows text : List ℕ) where
       go true = sym (or-false (w .bad))
       go false = sym (or-true (w .bad))
 
-  -- So at the end it is known whether any text was bad
-  bad-end : (ls : List Leaf) (w : EntryWriter) → w .bad ≡ not (goodRows rows text (w .row)) → Given rows text (w .row) ls
-      → pushAll (push rows text) ls w .bad ≡ not (goodRows rows text (w .row + length ls))
-  bad-end [] w b g = rw (add-zero (w .row)) b
-  bad-end (x ∷ ls) w b g =
-      let i = w .row in
-      let w₁ = push rows text x w in
-      let r : w₁ .row ≡ suc i = row-after x w ∙ omega arith in
-      let e : w₁ .bad ≡ not (goodRows rows text (w₁ .row)) =
-      bad-after x w (g .0 .1) ∙ ap (λ (y : Bool). y || not (goodAt rows text i)) b ∙ sym (not-and (goodRows rows text i) (goodAt rows text i)) ∙ ap (λ (k : ℕ). not (goodRows rows text k)) (sym r) in
-      let n : w₁ .row + length ls ≡ i + length (x ∷ ls) = omega arith in
-      bad-end ls w₁ e (rw (row-after x w) (g .1)) ∙ ap (λ (k : ℕ). not (goodRows rows text k)) n
-
   -- The length grows by the leaf's bytes
   pos-after : (x : Leaf) (w : EntryWriter) → RowGives rows text (w .row) x → goodAt rows text (w .row) ≡ true → push rows text x w .pos ≡ cap (w .pos + length (leafBytes x))
   pos-after (plain srt n) w g h = refl
   pos-after (string t) w g h = ap (λ (b : Bool). pastText b t w .pos) (found-good t w g ∙ h)
 
-  -- The rows of some leaves are good
-  abbrev pub GoodFrom : (row : ℕ) → List Leaf → Type 0
-  GoodFrom i ls = (k : ℕ) → i ≤ k → k < i + length ls → goodAt rows text k ≡ true
+  -- A writer after rows that take n bytes, if they are good
+  pub record Stands (w : EntryWriter) (n : ℕ) : Type 0 where
+    pub going : w .refusal ≡ 0
+    pub bad : w .bad ≡ not (goodRows rows text (w .row))
+    pub pos : goodRows rows text (w .row) ≡ true → w .pos ≡ cap n
 
-  pub good-next : (i : ℕ) (x : Leaf) (ls : List Leaf) → GoodFrom i (x ∷ ls) → GoodFrom (i + 1) ls
-  good-next i x ls h k a b = h k (omega arith) (omega arith)
-
-  pos-end : (ls : List Leaf) (w : EntryWriter) (n : ℕ) → w .pos ≡ cap n → Given rows text (w .row) ls → GoodFrom (w .row) ls
-      → pushAll (push rows text) ls w .pos ≡ cap (n + length (bytesOf ls))
-  pos-end [] w n p g h = rw (add-zero n) p
-  pos-end (x ∷ ls) w n p g h =
+  push-stands : (x : Leaf) (w : EntryWriter) (n : ℕ) → Stands w n → RowGives rows text (w .row) x → Stands (push rows text x w) (n + length (leafBytes x))
+  push-stands x w n s g =
       let i = w .row in
-      let w₁ = push rows text x w in
-      let q : w₁ .pos ≡ cap (n + length (leafBytes x)) = pos-after x w (g .0 .1) (h i (omega arith) (omega arith)) ∙ rw p (cap-add n (length (leafBytes x))) in
-      let e : n + length (leafBytes x) + length (bytesOf ls) ≡ n + length (bytesOf (x ∷ ls)) = omega (arith, length-append (leafBytes x) (bytesOf ls)) in
-      pos-end ls w₁ (n + length (leafBytes x)) q (rw (row-after x w) (g .1)) (rw (row-after x w) (good-next i x ls h)) ∙ ap cap e
+      let r : push rows text x w .row ≡ suc i = row-after x w ∙ omega arith in
+      record {
+        going = push-refusal rows text x w ∙ s .going;
+        bad = rw r (bad-after x w g ∙ ap (λ (b : Bool). b || not (goodAt rows text i)) (s .bad) ∙ sym (not-and (goodRows rows text i) (goodAt rows text i)));
+        pos = λ h. let (a, b) = and-eq-true-iff (goodRows rows text i) (goodAt rows text i) .0 (rw r at h) in pos-after x w g b ∙ rw (s .pos a) (cap-add n (length (leafBytes x)));
+      }
 
--- The end of a writing that took all leaves of a value
-finished-by : (L : Layout) (rows text : List ℕ) (v : Value L) (end : ℕ) (w : EntryWriter) → w .refusal ≡ 0 → w .row ≡ end
-    → (rowWidth * end ≡ length rows → w .bad ≡ not (goodRows rows text (wholeRows rows)))
-    → (goodRows rows text (wholeRows rows) ≡ true → w .pos ≡ cap (length (bytes L v)))
-    → closing rows w
-    ≡ lengthIn (fourteen (need (eqb (rowWidth * end) (length rows)) 14 0 (ok v end)) >>= λ x e.
-    need (goodRows rows text (wholeRows rows)) 15 0 (need (leb (length (bytes L x)) limit) 16 0 (ok (bytes L x) (length (bytes L x)))))
-unfolding closing
-finished-by L rows text v end w z r b p = rw (z, r) (whole (eqb (rowWidth * end) (length rows)) refl)
+  stands-all : (ls : List Leaf) (w : EntryWriter) (n : ℕ) → Stands w n → Given rows text (w .row) ls → Stands (pushAll (push rows text) ls w) (n + length (bytesOf ls))
+  stands-all [] w n s g = rw (add-zero n) s
+  stands-all (x ∷ ls) w n s g =
+      let e : n + length (leafBytes x) + length (bytesOf ls) ≡ n + length (bytesOf (x ∷ ls)) = omega (arith, length-append (leafBytes x) (bytesOf ls)) in
+      subst (Stands (pushAll (push rows text) (x ∷ ls) w)) e
+      (stands-all ls (push rows text x w) (n + length (leafBytes x)) (push-stands x w n s (g .0 .1)) (rw (row-after x w) (g .1)))
+
+  pub stands-new : Stands newWriter 0
+  stands-new = record { going = refl; bad = refl; pos = λ h. refl }
+
+  -- A writer after what was taken from the rows, of so many bytes
+  pub data Reached {A : Type 0} (size : A → ℕ) (w : EntryWriter) : Outcome ℕ A → Type 0 where
+    arrives : {v : A} {end : ℕ} → Stands w (size v) × (w .row ≡ end) → Reached size w (ok v end)
+    halts : {n p : ℕ} → w .refusal ≡ 14 → Reached size w (refuse n p)
+
+  pub reached-as : {A : Type 0} {f g : A → ℕ} {w : EntryWriter} {m : Outcome ℕ A} → ((v : A) → f v ≡ g v) → Reached f w m → Reached g w m
+  reached-as {w = w} e (arrives {v} {end} h) = arrives {v = v} {end = end} (subst (Stands w) (e v) (h .0), h .1)
+  reached-as e (halts h) = halts h
+
+  -- So it takes the value of a layout
+  pub consumed : (L : Layout) (w : EntryWriter) (n : ℕ) → Stands w n → Reached (λ v. n + length (bytes L v)) (consume L rows text w) (walk (inRows rows text) L (w .row))
+  consumed L w n s = go (walk (inRows rows text) L (w .row)) (walk-sound L rows text (w .row)) (writes rows text L w (s .going))
+    where
+      go : (m : Outcome ℕ (Value L)) → All (λ v end. Meets Sized L v × Begins rows text (w .row) (leaves L v) end) m → Follows (gait rows text) w (consume L rows text w) (m >>= λ v end. ok (leaves L v) end)
+          → Reached (λ v. n + length (bytes L v)) (consume L rows text w) m
+      go (ok v end) h f =
+          let (q, r) = moved-of f in
+          arrives {v = v} {end = end} (rw q (stands-all (leaves L v) w n s (all-ok h refl .1 .gives)), r)
+      go (refuse a b) h f = halts (stops-of f)
+
+  pub consumed-alone : (L : Layout) → Reached (λ v. length (bytes L v)) (consume L rows text newWriter) (walk (inRows rows text) L 0)
+  consumed-alone L = reached-as (λ v. omega arith) (consumed L newWriter 0 stands-new)
+
+-- The answer at the end: 14 to 16, or the length
+pub closed : {A : Type 0} (bytes : A → List ℕ) (rows text : List ℕ) (w : EntryWriter) (taken : Outcome ℕ A) → Reached rows text (λ v. length (bytes v)) w taken
+    → closing rows w ≡ lengthIn (measuredAs bytes rows text (wholly rows taken))
+unfolding closing measuredAs wholly
+closed bytes rows text w taken (halts e) = rw e
+closed {A} bytes rows text w taken (arrives {v} {end} (s, r)) = rw (s .going, r) (whole (eqb (rowWidth * end) (length rows)) refl)
   where
-    fit : (a : Bool) → leb (length (bytes L v)) limit ≡ a
-        → cond (leb (cap (length (bytes L v))) limit) (counted (cap (length (bytes L v)))) (uncounted 16 0) ≡ lengthIn (need a 16 0 (ok (bytes L v) (length (bytes L v))))
+    fit : (a : Bool) → leb (length (bytes v)) limit ≡ a
+        → cond (leb (cap (length (bytes v))) limit) (counted (cap (length (bytes v)))) (uncounted 16 0) ≡ lengthIn (need a 16 0 (ok (bytes v) (length (bytes v))))
     fit true e = rw (e, e)
     fit false e = rw e
 
-    good : (a : Bool) → goodRows rows text (wholeRows rows) ≡ a
+    good : (a : Bool) → goodRows rows text (w .row) ≡ a
         → cond (not a) (uncounted 15 0) (cond (leb (w .pos) limit) (counted (w .pos)) (uncounted 16 0))
-        ≡ lengthIn (need a 15 0 (need (leb (length (bytes L v)) limit) 16 0 (ok (bytes L v) (length (bytes L v)))))
-    good true e = rw (p e) (fit (leb (length (bytes L v)) limit) refl)
+        ≡ lengthIn (need a 15 0 (need (leb (length (bytes v)) limit) 16 0 (ok (bytes v) (length (bytes v)))))
+    good true e = rw (s .pos e) (fit (leb (length (bytes v)) limit) refl)
     good false e = refl
 
     whole : (a : Bool) → eqb (rowWidth * end) (length rows) ≡ a
         → cond a (cond (w .bad) (uncounted 15 0) (cond (leb (w .pos) limit) (counted (w .pos)) (uncounted 16 0))) (uncounted 14 0)
         ≡ lengthIn (fourteen (need a 14 0 (ok v end)) >>= λ x e.
-        need (goodRows rows text (wholeRows rows)) 15 0 (need (leb (length (bytes L x)) limit) 16 0 (ok (bytes L x) (length (bytes L x)))))
-    whole true e = rw (b (eqb-true _ _ e)) (good (goodRows rows text (wholeRows rows)) refl)
+        need (goodRows rows text (wholeRows rows)) 15 0 (need (leb (length (bytes x)) limit) 16 0 (ok (bytes x) (length (bytes x)))))
+    whole true e =
+        let n : wholeRows rows ≡ w .row = whole-rows rows end (sym (eqb-true _ _ e)) ∙ sym r in
+        rw (n, s .bad) (good (goodRows rows text (w .row)) refl)
     whole false e = refl
-
--- The end of a refused writing
-closing-refused : (rows : List ℕ) (w : EntryWriter) → w .refusal ≡ 14 → closing rows w ≡ uncounted 14 0
-unfolding closing
-closing-refused rows w e = rw e
-
-module _ (L : Layout) (rows text : List ℕ) where
-  by-outcome : (m : Outcome ℕ (Value L)) → walk (inRows rows text) L 0 ≡ m → Follows (gait rows text) newWriter (consume L rows text newWriter) (m >>= λ v end. ok (leaves L v) end)
-      → closing rows (consume L rows text newWriter)
-      ≡ lengthIn (fourteen (m >>= λ v end. need (eqb (rowWidth * end) (length rows)) 14 0 (ok v end)) >>= λ x e.
-      need (goodRows rows text (wholeRows rows)) 15 0 (need (leb (length (bytes L x)) limit) 16 0 (ok (bytes L x) (length (bytes L x)))))
-  by-outcome (refuse n p) e f = closing-refused rows (consume L rows text newWriter) (stops-of f)
-  by-outcome (ok v end) e f =
-      let (q, r) = moved-of f in
-      let (s, b) = walk-sound L rows text v end e in
-      let ls = leaves L v in
-      let n : end ≡ length ls = b .ends ∙ omega arith in
-      finished-by L rows text v end (consume L rows text newWriter)
-      (ap (λ (x : EntryWriter). x .refusal) q ∙ refusal-all rows text ls newWriter) r
-      (λ w.
-      let t : 0 + length ls ≡ wholeRows rows = omega (arith, whole-rows L rows text end (sym w)) in
-      ap (λ (x : EntryWriter). x .bad) q ∙ bad-end rows text ls newWriter refl (b .gives) ∙ ap (λ (k : ℕ). not (goodRows rows text k)) t)
-      (λ w.
-      let t : 0 + length (bytesOf ls) ≡ length (bytesOf ls) = omega arith in
-      ap (λ (x : EntryWriter). x .pos) q ∙ pos-end rows text ls newWriter 0 refl (b .gives) (λ k a i. good-sound rows text (wholeRows rows) w k (given-there rows text 0 ls (b .gives) k a i)) ∙ ap cap t)
-
--- Measuring a value: 14 to 16, or the length
-pub measured-law : (L : Layout) (rows text : List ℕ) → closing rows (consume L rows text newWriter) ≡ lengthIn (measured L rows text)
-unfolding measured spelled
-measured-law L rows text = by-outcome L rows text (walk (inRows rows text) L 0) refl (writes rows text L newWriter refl)

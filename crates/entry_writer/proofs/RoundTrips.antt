@@ -20,10 +20,11 @@ use Rattle.layout.proofs.Each.{each-of}
 use Rattle.layout.proofs.Walk.{meets-map}
 use Rattle.entry_writer.specs.Rows.{lentAt}
 use Rattle.entry_writer.specs.Writing.{write}
-use Rattle.entry_writer.specs.Refusals.{RowGives, Along, Sized, Spells, GoodText, GoodTexts}
+use Rattle.entry_writer.specs.Refusals.{RowGives, Along, Sized, alone, Spells, GoodText, GoodTexts, Writable}
 use Rattle.entry_writer.specs.Theorems.{ReadsBack, Read-written, Write-read}
 use Rattle.entry_writer.proofs.Along.{along-at, along-map, along-both, along-also}
-use Rattle.entry_writer.proofs.Spelled.{plain-not-text, whole-rows, spells-proper, write-exact}
+use Rattle.entry_writer.proofs.Spelled.{plain-not-text, whole-rows}
+use Rattle.entry_writer.proofs.Exact.{proper-alone, write-exact}
 
 -- A row gives a leaf; for a text, all its bytes
 abbrev Holds : (rows text : List ℕ) → (row : ℕ) → Leaf → Type 0
@@ -118,9 +119,9 @@ module _ (L : Layout) (s : List ℕ) (v : Value L) (d : Derives L s v) where
   stored-hold zeros = rows-hold ls [] zeros s 0 0 [] (omega arith) (sym (d .derives) ∙ sym (append-nil (bytes L v)))
 
   -- The rows of a reading spell what was read
-  rows-spell : Spells L (rowsFrom 0 ls) s v
+  rows-spell : Spells (alone L) (rowsFrom 0 ls) s v
   rows-spell = record {
-    sized = meets-map fits-sized L v (d .proper);
+    allowed = meets-map fits-sized L v (d .proper);
     whole = rows-length 0 ls;
     give = along-map (Holds (rowsFrom 0 ls) s) (RowGives (rowsFrom 0 ls) s) 0 ls (λ k x a b h. holds-gives (rowsFrom 0 ls) s k x h) hold;
   }
@@ -131,12 +132,12 @@ module _ (L : Layout) (s : List ℕ) (v : Value L) (d : Derives L s v) where
   rows-good : GoodTexts (rowsFrom 0 ls) s
   rows-good i h =
       let hold : HoldAll (rowsFrom 0 ls) s 0 ls = subst (λ (t : List ℕ). HoldAll t s 0 ls) (append-nil (rowsFrom 0 ls)) (stored-hold []) in
-      let w : wholeRows (rowsFrom 0 ls) ≡ length ls = whole-rows L (rowsFrom 0 ls) s (length ls) (rows-length 0 ls) in
+      let w : wholeRows (rowsFrom 0 ls) ≡ length ls = whole-rows (rowsFrom 0 ls) (length ls) (rows-length 0 ls) in
       along-at (λ k x. Holds (rowsFrom 0 ls) s k x × Fits x) (λ k. sortAt (rowsFrom 0 ls) k ≡ textSort → GoodText (rowsFrom 0 ls) s k) (holds-good (rowsFrom 0 ls) s) 0 ls
       (along-also (Holds (rowsFrom 0 ls) s) Fits 0 ls hold (each-of Fits L v (d .proper))) i (omega arith) (omega arith)
 
   written-back : (size : ℕ) → length s ≤ size → write L (rowsFrom 0 ls) s size ≡ ok s (length s)
-  written-back size h = write-exact L (rowsFrom 0 ls) s size s (length s) .1 (v, rows-spell, rows-good, sym (d .derives), refl, d .small, h)
+  written-back size h = write-exact L (rowsFrom 0 ls) s size s (length s) .1 (v, record { spells = rows-spell; texts = rows-good; small = omega (arith, ap length (d .derives), d .small) }, sym (d .derives), refl, h)
 
 accepted-back : (L : Layout) (entities : ℕ) (s table : List ℕ) (r : Result) (n : ℕ) (v : Value L) → Derives L s v → r ≡ acceptance (given entities (leaves L v)) table
     → r .answer ≡ accepted entities n → (size : ℕ) → length s ≤ size → write L (take (rowWidth * n) (r .table)) s size ≡ ok s (length s)
@@ -165,12 +166,12 @@ zero-beyond rows m k h =
     zeros (suc m) zero = refl
     zeros (suc m) (suc i) = zeros m i
 
-module _ (L : Layout) (rows text b : List ℕ) (v : Value L) (d : Derives L b v) (s : Spells L rows text v) (good : GoodTexts rows text) where
+module _ (L : Layout) (rows text b : List ℕ) (v : Value L) (d : Derives L b v) (s : Spells (alone L) rows text v) (good : GoodTexts rows text) where
   abbrev spelt : List Leaf
   spelt = leaves L v
 
   spelt-rows : wholeRows rows ≡ length spelt
-  spelt-rows = whole-rows L rows text (length spelt) (s .whole)
+  spelt-rows = whole-rows rows (length spelt) (s .whole)
 
   given-hold : HoldAll rows text 0 spelt
   given-hold = along-map (RowGives rows text) (Holds rows text) 0 spelt (λ k x a h g. good-holds rows text k x (good k (omega (arith, spelt-rows))) g) (s .give)
@@ -196,6 +197,6 @@ module _ (L : Layout) (rows text b : List ℕ) (v : Value L) (d : Derives L b v)
 
 pub read-written : Read-written
 read-written L entities rows text size b n e table room =
-    let (v, s, good, x, y, small, fits) = write-exact L rows text size b n .0 e in
-    let d : Derives L b v = record { small = omega arith; proper = spells-proper L rows text v s good (omega (arith, ap length x)); derives = sym x } in
-    returned L rows text b v d s good entities table room
+    let (v, w, x, y, fits) = write-exact L rows text size b n .0 e in
+    let d : Derives L b v = record { small = omega (arith, ap length x, w .small); proper = proper-alone L rows text v w; derives = sym x } in
+    returned L rows text b v d (w .spells) (w .texts) entities table room

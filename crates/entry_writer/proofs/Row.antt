@@ -1,7 +1,7 @@
 -- What a row takes and stores, by its sort; and row after row.
 use Prim.Native.Nat.{ℕ, suc, _+_, _-_, _%_, _≤_, _<_}
 use native.Mathlib.Omega.{arith}
-use mathlib.Core.Bool.{Bool, not, true, false}
+use mathlib.Core.Bool.{Bool, not, true, false, cond}
 use mathlib.Core.List.{List, [], _∷_, _++_}
 use mathlib.Core.Path.{_≡_, refl, sym, ap, _∙_}
 use lib.Dec.{leb}
@@ -11,7 +11,7 @@ use borrow.Author.Tests.{not-true, not-false, le-leb, lt-leb, leb-true, leb-fals
 use Rattle.layout.specs.Written.{four, sortAt, offsetAt, valueAt}
 use Rattle.paste.specs.Pasted.{pasted}
 use Rattle.paste.proofs.Pasted.{set-pasted, pasted-append}
-use Rattle.entry_writer.specs.Private.{bySort, textInside, rowLength, rowBytes, storedFrom}
+use Rattle.entry_writer.specs.Private.{bySort, textInside, rowLength, rowBytes, storedFrom, beginsEntry, headLength, lengthStored, entriesFrom}
 
 module _ (rows : List ℕ) (i sort : ℕ) (e : sort ≡ sortAt rows i) where
   -- The case of a sort
@@ -110,3 +110,28 @@ module _ (rows text : List ℕ) (n i at : ℕ) (dest : List ℕ) where
   pub stored-done : n ≤ i → storedFrom rows text (n - i) i at dest ≡ dest
   unfolding storedFrom
   stored-done h = let e : n - i ≡ 0 = omega arith in rw e
+
+-- The length of an entry comes before what is stored after it
+pub begin-below : (o : Bool) (begin at b head size : ℕ) → begin + 4 ≤ at → b ≡ cond o at begin → head ≡ cond o 4 0 → b + 4 ≤ at + (head + size)
+begin-below true begin at b head size h e f = omega arith
+begin-below false begin at b head size h e f = omega arith
+
+-- The rows from i on as entries, of n: the next one fits, or does not fit, or there is none
+module _ (rows text : List ℕ) (n i begin at : ℕ) (dest : List ℕ) where
+  module _ (h : i < n) (head : ℕ) (p : head ≡ headLength rows i) (size : ℕ) (s : size ≡ rowLength rows i) where
+    entry-next : n - i ≡ suc (n - (i + 1))
+    entry-next = omega arith
+
+    pub entries-step : at + (head + size) ≤ length dest → (b : ℕ) → b ≡ cond (beginsEntry rows i) at begin → (mid : List ℕ) → mid ≡ cond (beginsEntry rows i) (lengthStored begin at dest) dest
+        → (after : List ℕ) → after ≡ pasted mid (at + head) (rowBytes rows text i)
+        → entriesFrom rows text (n - i) i begin at dest ≡ entriesFrom rows text (n - (i + 1)) (i + 1) b (at + (head + size)) after
+    unfolding entriesFrom
+    entries-step k b x mid y after z = rw (entry-next, ← p, ← s, le-leb (at + (head + size)) (length dest) k, z, y, x)
+
+    pub entries-stop : length dest < at + (head + size) → entriesFrom rows text (n - i) i begin at dest ≡ dest
+    unfolding entriesFrom
+    entries-stop k = rw (entry-next, ← p, ← s, lt-leb (at + (head + size)) (length dest) k)
+
+  pub entries-done : n ≤ i → entriesFrom rows text (n - i) i begin at dest ≡ lengthStored begin at dest
+  unfolding entriesFrom
+  entries-done h = let e : n - i ≡ 0 = omega arith in rw e

@@ -16,10 +16,10 @@ use Rattle.layout.specs.Answers.{limit, wholeRows}
 use Rattle.layout.proofs.Each.{Each, each-of, meets-each}
 use Rattle.layout.proofs.Walk.{All, given, refused, all-ok, all-bind, all-need, all-when, Sound, Complete, sound, complete}
 use Rattle.entry_writer.specs.Rows.{isRow, lentAt, inRows, staysAt, goodAt, goodRows}
-use Rattle.entry_writer.specs.Writing.{fourteen, spelled, measured, write}
-use Rattle.entry_writer.specs.Refusals.{RowGives, Along, Sized, Spells, GoodText, GoodTexts, WriteRefusal, not-spelled, bad-text, too-long, no-space}
+use Rattle.entry_writer.specs.Writing.{fourteen, wholly}
+use Rattle.entry_writer.specs.Refusals.{RowGives, Along, Sized, Form, alone, Spells, GoodText, GoodTexts}
 use Rattle.entry_writer.proofs.Along.{along-join, along-part, along-at, along-map}
-use Rattle.entry_writer.specs.Theorems.{Write-exact, Spells-proper, Spells-unique, Write-refused}
+use Rattle.entry_writer.specs.Theorems.{Spells-proper, Spells-unique}
 
 -- A row of a given sort
 pub is-row : (rows : List ℕ) (i sort : ℕ) → isRow rows i sort ≡ true → (i < wholeRows rows) × (sortAt rows i ≡ sort)
@@ -84,45 +84,61 @@ module _ (rows text : List ℕ) where
         rw (there-row st textSort k s, v, e);
   }
 
+pub whole-rows : (rows : List ℕ) (n : ℕ) → length rows ≡ rowWidth * n → wholeRows rows ≡ n
+whole-rows rows n e = omega arith
+
 all-fourteen : {A : Type 0} {P : A → ℕ → Type 0} (m : Outcome ℕ A) → All P m → All P (fourteen m)
 all-fourteen m (given h) = given h
 all-fourteen m refused = refused
 
-module _ (L : Layout) (rows text : List ℕ) where
-  pub whole-rows : (n : ℕ) → length rows ≡ rowWidth * n → wholeRows rows ≡ n
-  whole-rows n e = omega arith
+-- What is taken from the rows is what they spell
+pub record Takes (F : Form) (rows text : List ℕ) (taken : Outcome ℕ (F .Content)) : Type 0 where
+  pub sound : All (λ v end. F .Allowed v × Begins rows text 0 (F .leaves v) end) taken
+  pub complete : (v : F .Content) → F .Allowed v → Given rows text 0 (F .leaves v) → wholeRows rows ≡ length (F .leaves v) → taken ≡ ok v (length (F .leaves v))
 
-  pub spells-given : (v : Value L) → Spells L rows text v → Given rows text 0 (leaves L v)
-  spells-given v s = along-map (RowGives rows text) (There rows text) 0 (leaves L v) (λ k x a b g. (omega (arith, whole-rows (length (leaves L v)) (s .whole)), g)) (s .give)
+-- Rows that spell a value give its leaves
+pub spells-given : (F : Form) (rows text : List ℕ) (v : F .Content) → Spells F rows text v → Given rows text 0 (F .leaves v)
+spells-given F rows text v s =
+    let w = whole-rows rows (length (F .leaves v)) (s .whole) in
+    along-map (RowGives rows text) (There rows text) 0 (F .leaves v) (λ k x a b g. (omega arith, g)) (s .give)
 
-  pub walked : (v : Value L) → Spells L rows text v → walk (inRows rows text) L 0 ≡ ok v (length (leaves L v))
-  walked v s =
-      complete (inRows rows text) Sized (Begins rows text) (rows-complete rows text) L v (s .sized)
-      (record { gives = spells-given v s; ends = omega arith })
+module _ (F : Form) (rows text : List ℕ) (taken : Outcome ℕ (F .Content)) (k : Takes F rows text taken) where
+  pub spelled-complete : (v : F .Content) → Spells F rows text v → wholly rows taken ≡ ok v (length (F .leaves v))
+  unfolding wholly
+  spelled-complete v s =
+      let n = length (F .leaves v) in
+      rw (k .complete v (s .allowed) (spells-given F rows text v s) (whole-rows rows n (s .whole)), eq-eqb (rowWidth * n) (length rows) (sym (s .whole)))
 
-  pub walk-sound : (v : Value L) (end : ℕ) → walk (inRows rows text) L 0 ≡ ok v end → Meets Sized L v × Begins rows text 0 (leaves L v) end
-  walk-sound v end e = all-ok (sound (inRows rows text) Sized (Begins rows text) (rows-sound rows text) L 0) e
-
-  pub spelled-complete : (v : Value L) → Spells L rows text v → spelled L rows text ≡ ok v (length (leaves L v))
-  unfolding spelled
-  spelled-complete v s = rw (walked v s, eq-eqb (rowWidth * length (leaves L v)) (length rows) (sym (s .whole)))
-
-  pub spelled-sound : All (λ v end. Spells L rows text v) (spelled L rows text)
-  unfolding spelled
+  pub spelled-sound : All (λ v end. Spells F rows text v) (wholly rows taken)
+  unfolding wholly
   spelled-sound =
       all-fourteen _
-      (all-bind (walk (inRows rows text) L 0) _ (all-when _ walk-sound) λ v end p.
+      (all-bind taken _ (k .sound) λ v end p.
       all-need (eqb (rowWidth * end) (length rows)) 14 0 _ λ e.
-      let w : end ≡ length (leaves L v) = p .1 .ends ∙ omega arith in
-      given (record { sized = p .0; whole = sym (eqb-true _ _ e) ∙ ap (λ (n : ℕ). rowWidth * n) w; give = along-map (There rows text) (RowGives rows text) 0 (leaves L v) (λ k x a b g. g .1) (p .1 .gives) }))
+      let w : end ≡ length (F .leaves v) = p .1 .ends ∙ omega arith in
+      given (record { allowed = p .0; whole = sym (eqb-true _ _ e) ∙ ap (λ (n : ℕ). rowWidth * n) w; give = along-map (There rows text) (RowGives rows text) 0 (F .leaves v) (λ k x a b g. g .1) (p .1 .gives) }))
 
-  pub spelled-refused : (n p : ℕ) → spelled L rows text ≡ refuse n p → (n ≡ 14) × (p ≡ 0)
-  unfolding spelled
-  spelled-refused n p e = go (walk (inRows rows text) L 0 >>= λ v end. need (eqb (rowWidth * end) (length rows)) 14 0 (ok v end)) e
-    where
-      go : (m : Outcome ℕ (Value L)) → fourteen m ≡ refuse n p → (n ≡ 14) × (p ≡ 0)
-      go (ok v end) e = let z : _≡_ {A = ℕ} 0 1 = cc in absurd (omega arith)
-      go (refuse a b) e = (cc, cc)
+pub spelled-refused : {A : Type 0} (rows : List ℕ) (taken : Outcome ℕ A) (n p : ℕ) → wholly rows taken ≡ refuse n p → (n ≡ 14) × (p ≡ 0)
+unfolding wholly
+spelled-refused rows taken n p e = go (taken >>= λ v end. need (eqb (rowWidth * end) (length rows)) 14 0 (ok v end)) e
+  where
+    go : {A : Type 0} (m : Outcome ℕ A) → fourteen m ≡ refuse n p → (n ≡ 14) × (p ≡ 0)
+    go (ok v end) e = let z : _≡_ {A = ℕ} 0 1 = cc in absurd (omega arith)
+    go (refuse a b) e = (cc, cc)
+
+-- A walk over the rows of a layout
+module _ (L : Layout) (rows text : List ℕ) where
+  pub walk-sound : (i : ℕ) → All (λ v end. Meets Sized L v × Begins rows text i (leaves L v) end) (walk (inRows rows text) L i)
+  walk-sound = sound (inRows rows text) Sized (Begins rows text) (rows-sound rows text) L
+
+  pub walk-complete : (v : Value L) (i : ℕ) → Meets Sized L v → Given rows text i (leaves L v) → walk (inRows rows text) L i ≡ ok v (i + length (leaves L v))
+  walk-complete v i m g = complete (inRows rows text) Sized (Begins rows text) (rows-complete rows text) L v m (record { gives = g; ends = refl })
+
+  pub takes-alone : Takes (alone L) rows text (walk (inRows rows text) L 0)
+  takes-alone = record {
+    sound = walk-sound 0;
+    complete = λ v m g w. let e : 0 + length (leaves L v) ≡ length (leaves L v) = omega arith in walk-complete v 0 m g ∙ ap (ok v) e;
+  }
 
 module _ (rows text : List ℕ) where
   good-text : (i : ℕ) → sortAt rows i ≡ textSort → goodAt rows text i ≡ true → GoodText rows text i
@@ -181,7 +197,7 @@ module _ (rows text : List ℕ) where
   not-all-good e = let (i, h, k) = bad-row (wholeRows rows) e in let (s, g) = not-good i k in (i, h, s, g)
 
 -- Leaves that are sized, with good texts and not too long, fit
-fitting : (rows text : List ℕ) → GoodTexts rows text → (i : ℕ) (ls : List Leaf) → Given rows text i ls → Each Sized ls → length (bytesOf ls) ≤ limit → Each Fits ls
+pub fitting : (rows text : List ℕ) → GoodTexts rows text → (i : ℕ) (ls : List Leaf) → Given rows text i ls → Each Sized ls → length (bytesOf ls) ≤ limit → Each Fits ls
 fitting rows text g i [] h z l = tt
 fitting rows text g i (plain srt n ∷ ls) h z l =
     (z .0, fitting rows text g (i + 1) ls (h .1) (z .1) (omega (arith, length-append (leafBytes (plain srt n)) (bytesOf ls))))
@@ -193,78 +209,11 @@ fitting rows text g i (string t ∷ ls) h z l =
 
 pub spells-proper : Spells-proper
 spells-proper L rows text v s g l =
-    meets-each Sized Fits L v (s .sized) (fitting rows text g 0 (leaves L v) (spells-given L rows text v s) (each-of Sized L v (s .sized)) l)
+    meets-each Sized Fits L v (s .allowed) (fitting rows text g 0 (leaves L v) (spells-given (alone L) rows text v s) (each-of Sized L v (s .allowed)) l)
 
 pub spells-unique : Spells-unique
-spells-unique L rows text v w s t = let a = spelled-complete L rows text v s in let b = spelled-complete L rows text w t in cc
-
-module _ (L : Layout) (rows text : List ℕ) (size : ℕ) where
-  -- The outcome of a writing
-  data Judged : Outcome ℕ (List ℕ) → Type 0 where
-    writes : {b : List ℕ} {n : ℕ} → (v : Value L) × Spells L rows text v × GoodTexts rows text × (b ≡ bytes L v) × (n ≡ length b) × (n ≤ limit) × (n ≤ size) → Judged (ok b n)
-    refuses : {n p : ℕ} → WriteRefusal L rows text size n × (p ≡ 0) → Judged (refuse n p)
-
-  wrote : {b : List ℕ} {n : ℕ} → Judged (ok b n) → (v : Value L) × Spells L rows text v × GoodTexts rows text × (b ≡ bytes L v) × (n ≡ length b) × (n ≤ limit) × (n ≤ size)
-  wrote (writes h) = h
-
-  refusing : {n p : ℕ} → Judged (refuse n p) → WriteRefusal L rows text size n × (p ≡ 0)
-  refusing (refuses h) = h
-
-  sized : (v : Value L) → Spells L rows text v → GoodTexts rows text → (a b : Bool) → leb (length (bytes L v)) limit ≡ a → leb (length (bytes L v)) size ≡ b
-      → Judged (need a 16 0 (ok (bytes L v) (length (bytes L v))) >>= λ x n. need (leb n size) 17 0 (ok x n))
-  sized v s g true true e f = rw f (writes (v, s, g, refl, refl, leb-true _ _ e, leb-true _ _ f))
-  sized v s g true false e f = rw f (refuses (no-space v s g (leb-true _ _ e) (leb-false _ _ f), refl))
-  sized v s g false b e f = refuses (too-long v s g (leb-false _ _ e), refl)
-
-  texted : (v : Value L) → Spells L rows text v → (a : Bool) → goodRows rows text (wholeRows rows) ≡ a
-      → Judged (need a 15 0 (need (leb (length (bytes L v)) limit) 16 0 (ok (bytes L v) (length (bytes L v)))) >>= λ x n. need (leb n size) 17 0 (ok x n))
-  texted v s true e = sized v s (goods rows text e) (leb (length (bytes L v)) limit) (leb (length (bytes L v)) size) refl refl
-  texted v s false e = let (i, h, k, g) = not-all-good rows text e in refuses (bad-text v i s h k g, refl)
-
-  judged : Judged (write L rows text size)
-  unfolding write measured
-  judged = go (spelled L rows text) refl (spelled-sound L rows text)
-    where
-      go : (m : Outcome ℕ (Value L)) → spelled L rows text ≡ m → All (λ v end. Spells L rows text v) m
-          → Judged ((m >>= λ v end. need (goodRows rows text (wholeRows rows)) 15 0 (need (leb (length (bytes L v)) limit) 16 0 (ok (bytes L v) (length (bytes L v))))) >>= λ x n. need (leb n size) 17 0 (ok x n))
-      go (ok v end) e h = texted v (all-ok h refl) (goodRows rows text (wholeRows rows)) refl
-      go (refuse n p) e h =
-          let (a, b) = spelled-refused L rows text n p e in
-          rw (a, b) (refuses (not-spelled (λ v s. let q = spelled-complete L rows text v s in let z : _≡_ {A = ℕ} 0 1 = cc in omega arith), refl))
-
-  spelled-write : (v : Value L) → Spells L rows text v
-      → write L rows text size
-      ≡ (need (goodRows rows text (wholeRows rows)) 15 0 (need (leb (length (bytes L v)) limit) 16 0 (ok (bytes L v) (length (bytes L v)))) >>= λ x n. need (leb n size) 17 0 (ok x n))
-  unfolding write measured
-  spelled-write v s = rw (spelled-complete L rows text v s)
-
-  refusal-write : (n : ℕ) → WriteRefusal L rows text size n → write L rows text size ≡ refuse n 0
-  unfolding write measured
-  refusal-write n (not-spelled h) = go (spelled L rows text) refl (spelled-sound L rows text)
-    where
-      go : (m : Outcome ℕ (Value L)) → spelled L rows text ≡ m → All (λ v end. Spells L rows text v) m
-          → ((m >>= λ v end. need (goodRows rows text (wholeRows rows)) 15 0 (need (leb (length (bytes L v)) limit) 16 0 (ok (bytes L v) (length (bytes L v))))) >>= λ x n. need (leb n size) 17 0 (ok x n)) ≡ refuse 14 0
-      go (ok v end) e k = absurd (h v (all-ok k refl))
-      go (refuse a b) e k = let (x, y) = spelled-refused L rows text a b e in rw (x, y)
-  refusal-write n (bad-text v i s h k g) = spelled-write v s ∙ go (goodRows rows text (wholeRows rows)) refl
-    where
-      go : (a : Bool) → goodRows rows text (wholeRows rows) ≡ a
-          → (need a 15 0 (need (leb (length (bytes L v)) limit) 16 0 (ok (bytes L v) (length (bytes L v)))) >>= λ x n. need (leb n size) 17 0 (ok x n)) ≡ refuse 15 0
-      go true e = absurd (g (goods rows text e i h k))
-      go false e = refl
-  refusal-write n (too-long v s g l) = spelled-write v s ∙ rw (all-good rows text g, lt-leb _ _ l)
-  refusal-write n (no-space v s g l k) = spelled-write v s ∙ rw (all-good rows text g, le-leb _ _ l, lt-leb _ _ k)
-
-pub write-exact : Write-exact
-write-exact L rows text size b n = (
-  λ e. wrote L rows text size (subst (Judged L rows text size) e (judged L rows text size)),
-  λ h. let (v, s, g, x, y, l, k) = h in
-      let e : n ≡ length (bytes L v) = y ∙ ap length x in
-      spelled-write L rows text size v s ∙ rw (all-good rows text g, x, e, le-leb (length (bytes L v)) limit (omega arith), le-leb (length (bytes L v)) size (omega arith)),
-)
-
-pub write-refused : Write-refused
-write-refused L rows text size n p = (
-  λ e. refusing L rows text size (subst (Judged L rows text size) e (judged L rows text size)),
-  λ h. rw (h .1) (refusal-write L rows text size n (h .0)),
-)
+spells-unique L rows text v w s t =
+    let k = takes-alone L rows text in
+    let a = spelled-complete (alone L) rows text _ k v s in
+    let b = spelled-complete (alone L) rows text _ k w t in
+    cc

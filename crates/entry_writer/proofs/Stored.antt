@@ -18,20 +18,27 @@ use Rattle.paste.specs.Pasted.{pasted}
 use Rattle.paste.proofs.Pasted.{pasted-fits}
 use Rattle.entry_writer.specs.Rows.{lentAt, staysAt, goodAt}
 use Rattle.entry_writer.specs.Private.{rowLength, rowBytes, storedFrom, stored}
-use Rattle.entry_writer.specs.Refusals.{RowGives, Sized, Spells, Gives, Stores}
+use Rattle.entry_writer.specs.Refusals.{RowGives, Sized, alone, Spells}
+use Rattle.entry_writer.specs.Storing.{Gives, Stores}
 use Rattle.entry_writer.proofs.Along.{along-each, along-map, along-also}
 use Rattle.entry_writer.proofs.Spelled.{There, Given, given-there, good-sound, all-good}
-use Rattle.entry_writer.proofs.Measured.{GoodFrom, good-next}
 use Rattle.entry_writer.proofs.Row.{length-one, length-four, length-text, bytes-one, bytes-four, bytes-text}
 
-pasted-after : (a r b : List ℕ) → length b ≤ length r → pasted (a ++ r) (length a) b ≡ (a ++ b) ++ drop (length b) r
+pub pasted-after : (a r b : List ℕ) → length b ≤ length r → pasted (a ++ r) (length a) b ≡ (a ++ b) ++ drop (length b) r
 pasted-after a r b h = pasted-fits (a ++ r) (length a) b (omega (arith, length-append a r)) ∙ rw (take-append-seam a r, drop-append-add a r (length b))
 
 module _ (rows text : List ℕ) where
+  -- The rows of some leaves are good
+  abbrev pub GoodFrom : (row : ℕ) → List Leaf → Type 0
+  GoodFrom i ls = (k : ℕ) → i ≤ k → k < i + length ls → goodAt rows text k ≡ true
+
+  pub good-next : (i : ℕ) (x : Leaf) (ls : List Leaf) → GoodFrom i (x ∷ ls) → GoodFrom (i + 1) ls
+  good-next i x ls h k a b = h k (omega arith) (omega arith)
+
   -- The row of a leaf takes as many bytes as the leaf, and has the same bytes
-  record Has (i : ℕ) (x : Leaf) : Type 0 where
-    takes : rowLength rows i ≡ length (leafBytes x)
-    has : rowBytes rows text i ≡ leafBytes x
+  pub record Has (i : ℕ) (x : Leaf) : Type 0 where
+    pub takes : rowLength rows i ≡ length (leafBytes x)
+    pub has : rowBytes rows text i ≡ leafBytes x
 
   one-has : (i sort n : ℕ) → sort ≡ sortAt rows i → sort ≤ 3 → valueAt rows i ≡ n → n < 256 → (rowLength rows i ≡ 1) × (rowBytes rows text i ≡ n ∷ [])
   one-has i sort n e h v k = (length-one rows i sort e h, bytes-one rows i sort e text h ∙ rw (v, mod-eq-of-lt k))
@@ -39,7 +46,7 @@ module _ (rows text : List ℕ) where
   four-has : (i sort n : ℕ) → sort ≡ sortAt rows i → 3 < sort → sort ≤ 5 → valueAt rows i ≡ n → (rowLength rows i ≡ 4) × (rowBytes rows text i ≡ four n)
   four-has i sort n e h k v = (length-four rows i sort e h k, bytes-four rows i sort e text h k ∙ ap four v)
 
-  row-has : (i : ℕ) (x : Leaf) → Sized x → RowGives rows text i x → goodAt rows text i ≡ true → Has i x
+  pub row-has : (i : ℕ) (x : Leaf) → Sized x → RowGives rows text i x → goodAt rows text i ≡ true → Has i x
   row-has i (plain Kind n) s g h = let (a, b) = one-has i 1 n (sym (g .0)) (omega arith) (g .1) s in record { takes = a; has = b }
   row-has i (plain Tag n) s g h = let (a, b) = one-has i 2 n (sym (g .0)) (omega arith) (g .1) s in record { takes = a; has = b }
   row-has i (plain Flag n) s g h = let (a, b) = one-has i 3 n (sym (g .0)) (omega arith) (g .1) (omega arith) in record { takes = a; has = b }
@@ -55,7 +62,7 @@ module _ (rows text : List ℕ) where
         has = bytes-text rows i textSort (sym (g .0)) text (omega arith) ∙ rw (a, g .1, n);
       }
 
-  stored-leaves : (ls : List Leaf) (i : ℕ) (a r : List ℕ) → Each Sized ls → Given rows text i ls → GoodFrom rows text i ls → length (bytesOf ls) ≤ length r
+  stored-leaves : (ls : List Leaf) (i : ℕ) (a r : List ℕ) → Each Sized ls → Given rows text i ls → GoodFrom i ls → length (bytesOf ls) ≤ length r
       → storedFrom rows text (length ls) i (length a) (a ++ r) ≡ (a ++ bytesOf ls) ++ drop (length (bytesOf ls)) r
   unfolding storedFrom
   stored-leaves [] i a r s g h k = ap (λ (x : List ℕ). x ++ r) (sym (append-nil a))
@@ -66,7 +73,7 @@ module _ (rows text : List ℕ) where
       let m : length a + length b ≡ length (a ++ b) = sym (length-append a b) in
       let f : leb (length a + length b) (length (a ++ r)) ≡ true = le-leb (length a + length b) (length (a ++ r)) (omega (arith, length-append a r)) in
       rw (w .takes, w .has, f, pasted-after a r b (omega arith), m)
-      (stored-leaves ls (i + 1) (a ++ b) (drop (length b) r) (s .1) (g .1) (good-next rows text i x ls h) (omega (arith, length-drop (length b) r))
+      (stored-leaves ls (i + 1) (a ++ b) (drop (length b) r) (s .1) (g .1) (good-next i x ls h) (omega (arith, length-drop (length b) r))
       ∙ rw (append-assoc a b (bytesOf ls), drop-drop, ← q))
 
 -- Storing meets its contract
@@ -79,5 +86,5 @@ stores rows text dest ls g good fits =
     ∙ stored-leaves rows text ls 0 [] dest (along-each (λ i x. RowGives rows text i x × Sized x) Sized (λ i x h. h .1) 0 ls (g .give)) t (λ i p z. k i (given-there rows text 0 ls t i p z)) fits
 
 -- Rows that spell a value give its leaves
-pub spells-gives : (L : Layout) (rows text : List ℕ) (v : Value L) → Spells L rows text v → Gives rows text (leaves L v)
-spells-gives L rows text v s = record { whole = s .whole; give = along-also (RowGives rows text) Sized 0 (leaves L v) (s .give) (each-of Sized L v (s .sized)) }
+pub spells-gives : (L : Layout) (rows text : List ℕ) (v : Value L) → Spells (alone L) rows text v → Gives rows text (leaves L v)
+spells-gives L rows text v s = record { whole = s .whole; give = along-also (RowGives rows text) Sized 0 (leaves L v) (s .give) (each-of Sized L v (s .allowed)) }

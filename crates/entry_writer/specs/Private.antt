@@ -1,10 +1,11 @@
 -- Definitions for the contracts of private functions; no public contract cites them.
-use Prim.Native.Nat.{ℕ, zero, suc, _+_, _%_}
-use mathlib.Core.Bool.{cond}
+use Prim.Native.Nat.{ℕ, zero, suc, _+_, _-_, _%_}
+use mathlib.Core.Bool.{Bool, cond, _&&_}
 use mathlib.Core.List.{List, [], _∷_, _++_}
-use lib.Dec.{ltb, leb}
+use lib.Dec.{eqb, ltb, leb}
 use lib.ListN.{length}
-use Rattle.layout.specs.Written.{four, sortAt, valueAt}
+use Rattle.layout.specs.Layout.{Kind}
+use Rattle.layout.specs.Written.{four, sortNumber, sortAt, valueAt}
 use Rattle.layout.specs.Reading.{Outcome, ok, refuse, need}
 use Rattle.layout.specs.Answers.{wholeRows}
 use Rattle.paste.specs.Pasted.{pasted}
@@ -49,3 +50,29 @@ storedFrom rows text (suc n) i at dest =
 -- All rows, stored from the start of dest on
 abbrev pub stored : (rows text dest : List ℕ) → List ℕ
 stored rows text dest = storedFrom rows text (wholeRows rows) 0 0 dest
+
+-- A row after the first begins another entry: it has an entity's kind
+abbrev pub beginsEntry : (rows : List ℕ) → (row : ℕ) → Bool
+beginsEntry rows i = ltb 0 i && eqb (sortAt rows i) (sortNumber Kind)
+
+-- The number of bytes of the length before a row
+abbrev pub headLength : (rows : List ℕ) → (row : ℕ) → ℕ
+headLength rows i = cond (beginsEntry rows i) 4 0
+
+-- The length of a payload is stored before it: the entry begins at a place, and ends at another
+abbrev pub lengthStored : (begin end : ℕ) → List ℕ → List ℕ
+lengthStored begin end dest = pasted dest begin (four ((end - begin - 4) % 4294967296))
+
+-- n rows from row i on, stored as entries as long as they fit: the first of them belongs to an entry that begins at a place and
+-- goes on at another
+unfoldable pub entriesFrom : (rows text : List ℕ) → (n row begin at : ℕ) → (dest : List ℕ) → List ℕ
+entriesFrom rows text zero i begin at dest = lengthStored begin at dest
+entriesFrom rows text (suc n) i begin at dest =
+    cond (leb (at + (headLength rows i + rowLength rows i)) (length dest))
+    (entriesFrom rows text n (i + 1) (cond (beginsEntry rows i) at begin) (at + (headLength rows i + rowLength rows i))
+    (pasted (cond (beginsEntry rows i) (lengthStored begin at dest) dest) (at + headLength rows i) (rowBytes rows text i)))
+    dest
+
+-- All rows, stored from the start of dest on
+abbrev pub storedEntries : (rows text dest : List ℕ) → List ℕ
+storedEntries rows text dest = cond (leb 4 (length dest)) (entriesFrom rows text (wholeRows rows) 0 0 4 dest) dest

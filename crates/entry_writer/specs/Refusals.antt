@@ -26,11 +26,25 @@ abbrev pub Sized : Leaf → Type 0
 Sized (plain srt n) = n < bound srt
 Sized (string t) = Unit {0}
 
+-- A form in which rows are written: its values, and the leaves and the bytes of each
+pub record Form : Type 1 where
+  pub Content : Type 0
+  -- its numbers fit their bytes, and each judge finds it fine
+  pub Allowed : Content → Type 0
+  -- it derives its bytes
+  pub Proper : Content → Type 0
+  pub leaves : Content → List Leaf
+  pub bytes : Content → List ℕ
+
+-- One value of a layout
+abbrev pub alone : Layout → Form
+alone L = record { Content = Value L; Allowed = Meets Sized L; Proper = Proper L; leaves = leaves L; bytes = bytes L }
+
 -- The rows spell exactly one value: they are whole rows, one for each of its leaves
-pub record Spells (L : Layout) (rows text : List ℕ) (v : Value L) : Type 0 where
-  pub sized : Meets Sized L v
-  pub whole : length rows ≡ rowWidth * length (leaves L v)
-  pub give : Along (RowGives rows text) 0 (leaves L v)
+pub record Spells (F : Form) (rows text : List ℕ) (v : F .Content) : Type 0 where
+  pub allowed : F .Allowed v
+  pub whole : length rows ≡ rowWidth * length (F .leaves v)
+  pub give : Along (RowGives rows text) 0 (F .leaves v)
 
 -- A text row is within the lent bytes, and those are valid UTF-8
 abbrev pub GoodText : (rows text : List ℕ) → (row : ℕ) → Type 0
@@ -41,51 +55,39 @@ abbrev pub GoodTexts : (rows text : List ℕ) → Type 0
 GoodTexts rows text = (i : ℕ) → i < wholeRows rows → sortAt rows i ≡ textSort → GoodText rows text i
 
 -- A refusal of a writing, for a destination of a given size; its place is 0
-pub data WriteRefusal (L : Layout) (rows text : List ℕ) (size : ℕ) : (number : ℕ) → Type 0 where
-  not-spelled : ((v : Value L) → Spells L rows text v → ⊥) → WriteRefusal L rows text size 14
-  bad-text : (v : Value L) (i : ℕ) → Spells L rows text v → i < wholeRows rows → sortAt rows i ≡ textSort → (GoodText rows text i → ⊥) → WriteRefusal L rows text size 15
-  too-long : (v : Value L) → Spells L rows text v → GoodTexts rows text → limit < length (bytes L v) → WriteRefusal L rows text size 16
-  no-space : (v : Value L) → Spells L rows text v → GoodTexts rows text → length (bytes L v) ≤ limit → size < length (bytes L v) → WriteRefusal L rows text size 17
+pub data WriteRefusal (F : Form) (rows text : List ℕ) (size : ℕ) : (number : ℕ) → Type 0 where
+  not-spelled : ((v : F .Content) → Spells F rows text v → ⊥) → WriteRefusal F rows text size 14
+  bad-text : (v : F .Content) (i : ℕ) → Spells F rows text v → i < wholeRows rows → sortAt rows i ≡ textSort → (GoodText rows text i → ⊥) → WriteRefusal F rows text size 15
+  too-long : (v : F .Content) → Spells F rows text v → GoodTexts rows text → limit < length (F .bytes v) → WriteRefusal F rows text size 16
+  no-space : (v : F .Content) → Spells F rows text v → GoodTexts rows text → length (F .bytes v) ≤ limit → size < length (F .bytes v) → WriteRefusal F rows text size 17
 
 -- The value v can be written: the rows spell it, its texts are good, and it is not too long
-pub record Writable (L : Layout) (rows text : List ℕ) (v : Value L) : Type 0 where
-  pub spells : Spells L rows text v
+pub record Writable (F : Form) (rows text : List ℕ) (v : F .Content) : Type 0 where
+  pub spells : Spells F rows text v
   pub texts : GoodTexts rows text
-  pub small : length (bytes L v) ≤ limit
+  pub small : length (F .bytes v) ≤ limit
 
 -- The contract of measuring, in terms of what the rows spell. 17 does not occur: the destination has the limit's size
-pub record ExactLength (L : Layout) (rows text : List ℕ) (answer : Total) : Type 0 where
+pub record ExactLength (F : Form) (rows text : List ℕ) (answer : Total) : Type 0 where
   -- a length is answered exactly if the rows spell a value that can be written; it is the length of the bytes that the value
   -- derives
-  pub accepts : (n : ℕ) → (answer ≡ counted n) ↔ (v : Value L) × Writable L rows text v × (n ≡ length (bytes L v))
+  pub accepts : (n : ℕ) → (answer ≡ counted n) ↔ (v : F .Content) × Writable F rows text v × (n ≡ length (F .bytes v))
   -- each refusal is answered exactly under its condition, at place 0
-  pub refuses : (n p : ℕ) → (answer ≡ uncounted n p) ↔ WriteRefusal L rows text limit n × (p ≡ 0)
+  pub refuses : (n p : ℕ) → (answer ≡ uncounted n p) ↔ WriteRefusal F rows text limit n × (p ≡ 0)
   -- a value that can be written is proper: a derivation
-  pub proper : (v : Value L) → Writable L rows text v → Proper L v
+  pub proper : (v : F .Content) → Writable F rows text v → F .Proper v
 
 -- The contract of writing, in terms of what the rows spell: `answer` is the length or a refusal, and `after` the destination
 -- afterwards
-pub record ExactWriting (L : Layout) (rows text dest : List ℕ) (answer : Total) (after : List ℕ) : Type 0 where
+pub record ExactWriting (F : Form) (rows text dest : List ℕ) (answer : Total) (after : List ℕ) : Type 0 where
   -- a length is answered exactly if the rows spell a value that can be written and the destination has space; it is the length
   -- of the bytes that the value derives
-  pub accepts : (n : ℕ) → (answer ≡ counted n) ↔ (v : Value L) × Writable L rows text v × (n ≡ length (bytes L v)) × (n ≤ length dest)
+  pub accepts : (n : ℕ) → (answer ≡ counted n) ↔ (v : F .Content) × Writable F rows text v × (n ≡ length (F .bytes v)) × (n ≤ length dest)
   -- then the destination has those bytes, and after them what was there
-  pub stores : (v : Value L) → Writable L rows text v → length (bytes L v) ≤ length dest → after ≡ bytes L v ++ drop (length (bytes L v)) dest
+  pub stores : (v : F .Content) → Writable F rows text v → length (F .bytes v) ≤ length dest → after ≡ F .bytes v ++ drop (length (F .bytes v)) dest
   -- each refusal is answered exactly under its condition, at place 0
-  pub refuses : (n p : ℕ) → (answer ≡ uncounted n p) ↔ WriteRefusal L rows text (length dest) n × (p ≡ 0)
+  pub refuses : (n p : ℕ) → (answer ≡ uncounted n p) ↔ WriteRefusal F rows text (length dest) n × (p ≡ 0)
   -- then the destination is unchanged
   pub keeps : (n p : ℕ) → answer ≡ uncounted n p → after ≡ dest
   -- a value that can be written is proper: a derivation
-  pub proper : (v : Value L) → Writable L rows text v → Proper L v
-
--- The rows give leaves: they are whole rows, one for each leaf, and the leaf's number fits
-pub record Gives (rows text : List ℕ) (ls : List Leaf) : Type 0 where
-  pub whole : length rows ≡ rowWidth * length ls
-  pub give : Along (λ i x. RowGives rows text i x × Sized x) 0 ls
-
--- The contract of storing rows, whatever the layout: if they give leaves, with good texts, and the destination has space, it
--- then has the bytes of the leaves, and after them what was there
-abbrev pub Stores : (rows text dest after : List ℕ) → Type 0
-Stores rows text dest after =
-    (ls : List Leaf) → Gives rows text ls → GoodTexts rows text → length (bytesOf ls) ≤ length dest
-    → after ≡ bytesOf ls ++ drop (length (bytesOf ls)) dest
+  pub proper : (v : F .Content) → Writable F rows text v → F .Proper v

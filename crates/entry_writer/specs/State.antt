@@ -35,6 +35,10 @@ past n size w = record { row = w .row + 1; pos = grown (w .pos) size; value = n;
 abbrev pub spoiled : EntryWriter → EntryWriter
 spoiled w = record { row = w .row + 1; pos = w .pos; value = w .value; refusal = w .refusal; bad = true }
 
+-- The writer after the length of an entry, which no row gives
+abbrev pub lengthTaken : EntryWriter → EntryWriter
+lengthTaken w = record { row = w .row; pos = grown (w .pos) 4; value = w .value; refusal = w .refusal; bad = w .bad }
+
 -- A row that holds a number, or 14
 abbrev pub arrivePlain : Sort → Outcome ℕ ℕ → EntryWriter → EntryWriter
 arrivePlain srt (ok n next) w = past n (length (leafBytes (plain srt n))) w

@@ -12,7 +12,7 @@ use Rattle.layout.specs.ReadAlone.{readingAlone}
 use Rattle.layout.specs.Theorems.{Bytes}
 use Rattle.entry_writer.specs.Rows.{lentAt}
 use Rattle.entry_writer.specs.Writing.{measured, write, lengthIn, written}
-use Rattle.entry_writer.specs.Refusals.{Spells, GoodTexts, WriteRefusal, ExactLength, ExactWriting}
+use Rattle.entry_writer.specs.Refusals.{Form, alone, Spells, GoodTexts, WriteRefusal, Writable, ExactLength, ExactWriting}
 
 -- What is written is what the value spelled by the rows derives, if its texts are good, its length is at most the limit and the
 -- destination has space; and every such value is written: `write-exact` in Spelled.antt
@@ -20,31 +20,31 @@ abbrev pub Write-exact : Type 0
 Write-exact =
     (L : Layout) (rows text : List ℕ) (size : ℕ) (b : List ℕ) (n : ℕ)
     → (write L rows text size ≡ ok b n)
-    ↔ ((v : Value L) × Spells L rows text v × GoodTexts rows text × (b ≡ bytes L v) × (n ≡ length b) × (n ≤ limit) × (n ≤ size))
+    ↔ ((v : Value L) × Writable (alone L) rows text v × (b ≡ bytes L v) × (n ≡ length b) × (n ≤ size))
 
 -- That value is proper: `spells-proper` in Spelled.antt
 abbrev pub Spells-proper : Type 0
 Spells-proper =
-    (L : Layout) (rows text : List ℕ) (v : Value L) → Spells L rows text v → GoodTexts rows text → length (bytes L v) ≤ limit → Proper L v
+    (L : Layout) (rows text : List ℕ) (v : Value L) → Spells (alone L) rows text v → GoodTexts rows text → length (bytes L v) ≤ limit → Proper L v
 
 -- No rows spell two values: `spells-unique` in Spelled.antt
 abbrev pub Spells-unique : Type 0
-Spells-unique = (L : Layout) (rows text : List ℕ) (v w : Value L) → Spells L rows text v → Spells L rows text w → v ≡ w
+Spells-unique = (L : Layout) (rows text : List ℕ) (v w : Value L) → Spells (alone L) rows text v → Spells (alone L) rows text w → v ≡ w
 
 -- Each refusal is answered exactly under its condition: `write-refused` in Spelled.antt
 abbrev pub Write-refused : Type 0
 Write-refused =
-    (L : Layout) (rows text : List ℕ) (size n p : ℕ) → (write L rows text size ≡ refuse n p) ↔ (WriteRefusal L rows text size n × (p ≡ 0))
+    (L : Layout) (rows text : List ℕ) (size n p : ℕ) → (write L rows text size ≡ refuse n p) ↔ (WriteRefusal (alone L) rows text size n × (p ≡ 0))
 
 -- Measuring meets its contract in terms of what the rows spell: `exact-length` in Exact.antt
 abbrev pub Exact-length : Type 0
-Exact-length = (L : Layout) (rows text : List ℕ) → ExactLength L rows text (lengthIn (measured L rows text))
+Exact-length = (L : Layout) (rows text : List ℕ) → ExactLength (alone L) rows text (lengthIn (measured L rows text))
 
 -- So does writing: `exact-writing` in Exact.antt
 abbrev pub Exact-writing : Type 0
 Exact-writing =
     (L : Layout) (rows text dest : List ℕ)
-    → ExactWriting L rows text dest (lengthIn (write L rows text (length dest))) (written (write L rows text (length dest)) dest)
+    → ExactWriting (alone L) rows text dest (lengthIn (write L rows text (length dest))) (written (write L rows text (length dest)) dest)
 
 -- A row of another table is the same, except for the offset if it is not a text row
 pub record SameRow (rows other : List ℕ) (i : ℕ) : Type 0 where

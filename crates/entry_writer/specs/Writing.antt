@@ -1,4 +1,4 @@
--- Writing one value of a layout from rows, with the refusals 14 to 17 in that order (docs/FORMAT.md, Writing and Refusals).
+-- Writing from rows, with the refusals 14 to 17 in that order (docs/FORMAT.md, Writing and Refusals); and one value of a layout.
 use Prim.Native.Nat.{ℕ, _*_}
 use mathlib.Core.Bool.{cond}
 use mathlib.Core.List.{List, _++_}
@@ -16,24 +16,33 @@ abbrev pub fourteen : {A : Type 0} → Outcome ℕ A → Outcome ℕ A
 fourteen (ok a end) = ok a end
 fourteen (refuse n p) = refuse 14 0
 
--- 14: the value of a layout that all the rows together spell
-unfoldable pub spelled : (L : Layout) → (rows text : List ℕ) → Outcome ℕ (Value L)
-spelled L rows text =
-    fourteen
-    (walk (inRows rows text) L 0 >>= λ v end.
-    need (eqb (rowWidth * end) (length rows)) 14 0 (ok v end))
+-- 14: what was taken from the rows, if they end with it
+unfoldable pub wholly : {A : Type 0} → (rows : List ℕ) → (taken : Outcome ℕ A) → Outcome ℕ A
+wholly rows taken = fourteen (taken >>= λ v end. need (eqb (rowWidth * end) (length rows)) 14 0 (ok v end))
 
--- 14; then 15 for all texts; then 16; then the bytes to be written, and their length
-unfoldable pub measured : Layout → (rows text : List ℕ) → Outcome ℕ (List ℕ)
-measured L rows text =
-    spelled L rows text >>= λ v end.
+-- The value of a layout that all the rows together spell
+unfoldable pub spelled : (L : Layout) → (rows text : List ℕ) → Outcome ℕ (Value L)
+spelled L rows text = wholly rows (walk (inRows rows text) L 0)
+
+-- If the rows spell something: 15 for all texts; then 16; then the bytes to be written, and their length
+unfoldable pub measuredAs : {A : Type 0} → (bytes : A → List ℕ) → (rows text : List ℕ) → (spelled : Outcome ℕ A) → Outcome ℕ (List ℕ)
+measuredAs bytes rows text spelled =
+    spelled >>= λ v end.
     need (goodRows rows text (wholeRows rows)) 15 0
-    (need (leb (length (bytes L v)) limit) 16 0
-    (ok (bytes L v) (length (bytes L v))))
+    (need (leb (length (bytes v)) limit) 16 0
+    (ok (bytes v) (length (bytes v))))
 
 -- Then 17, for a destination of a given size
+unfoldable pub within : (size : ℕ) → (measured : Outcome ℕ (List ℕ)) → Outcome ℕ (List ℕ)
+within size measured = measured >>= λ b n. need (leb n size) 17 0 (ok b n)
+
+-- Measuring one value of a layout
+unfoldable pub measured : Layout → (rows text : List ℕ) → Outcome ℕ (List ℕ)
+measured L rows text = measuredAs (bytes L) rows text (spelled L rows text)
+
+-- Writing it
 unfoldable pub write : Layout → (rows text : List ℕ) → (size : ℕ) → Outcome ℕ (List ℕ)
-write L rows text size = measured L rows text >>= λ b n. need (leb n size) 17 0 (ok b n)
+write L rows text size = within size (measured L rows text)
 
 -- 17, for a length alone
 abbrev pub fitting : Total → (size : ℕ) → Total

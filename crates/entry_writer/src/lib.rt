@@ -4,7 +4,7 @@ use layout::LIMIT;
 use layout::ROW_WIDTH;
 use length::Length;
 use table::Refusal;
-ghost use mathlib.Core.Bool.{false};
+ghost use mathlib.Core.Bool.{false, cond};
 ghost use mathlib.Core.Path.{_≡_};
 ghost use Prim.Native.Nat.{_+_, _^_, _<_, _≤_};
 ghost use lib.Dec.{leb};
@@ -18,10 +18,10 @@ ghost use Rattle.length.specs.Length.{lengthOf};
 ghost use Rattle.paste.specs.Pasted.{pasted};
 ghost use Rattle.entry_writer.specs.Rows.{isRow};
 ghost use Rattle.entry_writer.specs.Writing.{fitting};
-ghost use Rattle.entry_writer.specs.State.{newWriter, stoppedWriter, stoppedOnce, grown, past, spoiled, unlessRefused};
+ghost use Rattle.entry_writer.specs.State.{newWriter, stoppedWriter, stoppedOnce, grown, past, lengthTaken, spoiled, unlessRefused};
 ghost use Rattle.entry_writer.specs.Run.{consume, closing};
-ghost use Rattle.entry_writer.specs.Refusals.{Stores};
-ghost use Rattle.entry_writer.specs.Private.{numberFrom, takeNumber, rowLength, rowBytes};
+ghost use Rattle.entry_writer.specs.Storing.{Stores, StoresEntries};
+ghost use Rattle.entry_writer.specs.Private.{numberFrom, takeNumber, rowLength, rowBytes, beginsEntry, headLength, lengthStored};
 
 // The state of a writing: `row`, the next row; `pos`, the length so far, which stops just above the limit; `value`, the value
 // of the row before; `refusal`, 0 or 14; `bad`, whether a text row was bad. A refused writer takes no more rows.
@@ -195,6 +195,19 @@ impl EntryWriter {
         w
     }
 
+    // The length of an entry: four bytes before its payload, which no row gives.
+    pub fn entry_length(self) -> EntryWriter
+        ensures { λ r. ⌜ r ≡ lengthTaken self ⌝ }
+    {
+        EntryWriter {
+            row: self.row,
+            pos: grown(self.pos, 4),
+            value: self.value,
+            refusal: self.refusal,
+            bad: self.bad,
+        }
+    }
+
     // The answer at the end: 14 unless all rows were taken; 15; 16; or the length.
     pub fn finish(self, rows: &[u32]) -> Length
         ensures { λ r. ⌜ lengthOf r ≡ closing (now (rows .entry)) self ⌝ }
@@ -247,6 +260,80 @@ pub fn store(rows: &[u32], text: &[u8], dest: &mut [u8])
         at += size;
         i += 1;
     }
+}
+
+// Stores the bytes of the rows from the start of dest on as entries, as long as they fit: before the first row, and before each
+// later one of an entity's kind, stands the length of the payload, which is stored once the payload's end is known. What it
+// stores for rows that do not give the leaves of entities is unspecified.
+pub fn store_entries(rows: &[u32], text: &[u8], dest: &mut [u8])
+    ensures { λ r. ⌜ StoresEntries (now (rows .entry)) (now (text .entry)) (now (dest .entry)) (now (dest .exit)) ⌝ }
+{
+    if dest.len() < 4 {
+        return;
+    }
+    let mut begin = 0;
+    let mut at = 4;
+    let mut i = 0;
+    while i < rows.len() / ROW_WIDTH {
+        let head = head_len(rows, i);
+        let size = row_len(rows, i);
+        if dest.len() - at < head {
+            return;
+        }
+        if dest.len() - at - head < size {
+            return;
+        }
+        begin = end_entry(rows, dest, i, begin, at);
+        store_row(rows, text, dest, i, at + head);
+        at += head + size;
+        i += 1;
+    }
+    put_length(dest, begin, at);
+}
+
+// Whether a row after the first begins another entry.
+fn begins_entry(rows: &[u32], i: usize) -> bool
+    requires { ⌜ i < wholeRows (now rows) ⌝ }
+    ensures { λ r. ⌜ r ≡ beginsEntry (now (rows .entry)) i ⌝ }
+{
+    if i == 0 {
+        return false;
+    }
+    table::row_at(rows, i).sort == layout::SORT_KIND
+}
+
+// The number of bytes of the length before a row.
+fn head_len(rows: &[u32], i: usize) -> usize
+    requires { ⌜ i < wholeRows (now rows) ⌝ }
+    ensures { λ r. ⌜ r ≡ headLength (now (rows .entry)) i ⌝ }
+{
+    if begins_entry(rows, i) {
+        return 4;
+    }
+    0
+}
+
+// If a row begins another entry, stores the length of the one before it, which ends at `at`. Answers where the entry of the row
+// begins.
+fn end_entry(rows: &[u32], dest: &mut [u8], i: usize, begin: usize, at: usize) -> usize
+    requires { ⌜ (i < wholeRows (now rows)) × (begin + 4 ≤ at) × (at ≤ length (now dest)) ⌝ }
+    ensures { λ r. ⌜ r ≡ cond (beginsEntry (now (rows .entry)) i) at begin ⌝ }
+    ensures { λ r. ⌜ now (dest .exit) ≡ cond (beginsEntry (now (rows .entry)) i) (lengthStored begin at (now (dest .entry))) (now (dest .entry)) ⌝ }
+{
+    if !begins_entry(rows, i) {
+        return begin;
+    }
+    put_length(dest, begin, at);
+    at
+}
+
+// Stores the length of the payload of an entry that begins and ends at given places.
+fn put_length(dest: &mut [u8], begin: usize, end: usize)
+    requires { ⌜ (begin + 4 ≤ end) × (end ≤ length (now dest)) ⌝ }
+    ensures { λ r. ⌜ now (dest .exit) ≡ lengthStored begin end (now (dest .entry)) ⌝ }
+{
+    let length = end - begin - 4;
+    bytes::put_number(dest, begin, (length % 4294967296) as u32);
 }
 
 // The number of bytes that a row takes.

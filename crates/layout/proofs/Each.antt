@@ -8,11 +8,11 @@ Each G [] = Unit {0}
 Each G (x ∷ ls) = G x × Each G ls
 
 module _ (G : Leaf → Type 0) where
-  each-part : (a b : List Leaf) → Each G (a ++ b) → Each G a × Each G b
+  pub each-part : (a b : List Leaf) → Each G (a ++ b) → Each G a × Each G b
   each-part [] b h = (tt, h)
   each-part (x ∷ a) b h = let (k, l) = each-part a b (h .1) in ((h .0, k), l)
 
-  each-join : (a b : List Leaf) → Each G a → Each G b → Each G (a ++ b)
+  pub each-join : (a b : List Leaf) → Each G a → Each G b → Each G (a ++ b)
   each-join [] b h k = k
   each-join (x ∷ a) b h k = (h .0, each-join a b (h .1) k)
 

@@ -16,7 +16,7 @@ use Rattle.section.specs.Section.{reading}
 use Rattle.section.specs.Demand3.{Demand3}
 use Rattle.section.proofs.Demand3.{reading-meets, reading-told}
 use Rattle.table.specs.Answers.{answerOf, resultOf, Total, counted, uncounted}
-use Rattle.entry_writer.specs.Refusals.{WriteRefusal, not-spelled, bad-text, too-long, no-space}
+use Rattle.entry_writer.specs.Refusals.{Form, WriteRefusal, not-spelled, bad-text, too-long, no-space}
 use Rattle.packing.specs.Numbers.{answerNumbers, answerIn, resultIn, lengthNumbers, lengthTold}
 use Rattle.table.specs.declared.Answer as declared
 
@@ -44,7 +44,7 @@ pub value-told : (L : Layout) (entities : ℕ) (s lent : List ℕ) → Bytes s �
 value-told L entities s lent u numbers a table e q = told (ExactAlone L entities s lent) numbers a table (readingAlone L entities s lent) e q (alone-told L entities s u lent) (alone-exact L entities s u lent)
 
 -- A refusal of a writing has another number than 0
-writing-some : {L : Layout} {rows text : List ℕ} {size n : ℕ} → WriteRefusal L rows text size n → n ≡ 0 → ⊥
+writing-some : {F : Form} {rows text : List ℕ} {size n : ℕ} → WriteRefusal F rows text size n → n ≡ 0 → ⊥
 writing-some (not-spelled h) z = omega arith
 writing-some (bad-text v i s h k g) z = omega arith
 writing-some (too-long v s g h) z = omega arith
@@ -56,6 +56,6 @@ length-in (counted n) h = refl
 length-in (uncounted n p) h = rw (ne-eqb n 0 (h n p refl))
 
 -- So what holds of the length of a measuring or of a writing, whose refusals are those of a writing, holds of what the numbers tell
-pub length-told : (P : Total → Type 0) {L : Layout} {rows text : List ℕ} {size : ℕ} (numbers : List ℕ) (l : Total) → numbers ≡ lengthNumbers l
-    → ((n p : ℕ) → (l ≡ uncounted n p) ↔ WriteRefusal L rows text size n × (p ≡ 0)) → P l → P (lengthTold numbers)
+pub length-told : (P : Total → Type 0) {F : Form} {rows text : List ℕ} {size : ℕ} (numbers : List ℕ) (l : Total) → numbers ≡ lengthNumbers l
+    → ((n p : ℕ) → (l ≡ uncounted n p) ↔ WriteRefusal F rows text size n × (p ≡ 0)) → P l → P (lengthTold numbers)
 length-told P numbers l e r x = subst P (sym (ap lengthTold e ∙ length-in l λ n p q. writing-some (r n p .0 q .0))) x

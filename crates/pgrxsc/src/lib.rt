@@ -16,7 +16,7 @@ ghost use Rattle.parts.specs.Parts.{rowText, sqlNameIn};
 ghost use Rattle.sql_text.specs.SqlText.{sqlText, filled, sqlAnswer};
 ghost use Rattle.paths.specs.Paths.{report};
 ghost use Rattle.entry_writer.specs.Writing.{measured, write, lengthIn, written};
-ghost use Rattle.entry_writer.specs.Refusals.{ExactLength, ExactWriting};
+ghost use Rattle.entry_writer.specs.Refusals.{alone, ExactLength, ExactWriting};
 ghost use Rattle.pgrxsc.specs.Version.{version};
 ghost use Rattle.packing.specs.Numbers.{answerNumbers, resultIn, partNumbers, placeNumbers, inBuffer, lengthNumbers, lengthTold, reportNumbers, pairsIn};
 
@@ -137,7 +137,7 @@ pub extern "C" fn pgrxsc_write_metadata(
 )
     ensures { λ r. ⌜ now (answer .exit) ≡ lengthNumbers (lengthIn (write FunctionMetadataType (now (rows .entry)) (now (text .entry)) (length (now (dest .entry))))) ⌝ }
     ensures { λ r. ⌜ now (dest .exit) ≡ written (write FunctionMetadataType (now (rows .entry)) (now (text .entry)) (length (now (dest .entry)))) (now (dest .entry)) ⌝ }
-    ensures { λ r. ⌜ ExactWriting FunctionMetadataType (now (rows .entry)) (now (text .entry)) (now (dest .entry)) (lengthTold (now (answer .exit))) (now (dest .exit)) ⌝ }
+    ensures { λ r. ⌜ ExactWriting (alone FunctionMetadataType) (now (rows .entry)) (now (text .entry)) (now (dest .entry)) (lengthTold (now (answer .exit))) (now (dest .exit)) ⌝ }
 {
     *answer = packing::length_numbers(writer::encode_function_metadata_type(rows, text, dest));
 }
@@ -152,7 +152,7 @@ pub extern "C" fn pgrxsc_write_mapping(
 )
     ensures { λ r. ⌜ now (answer .exit) ≡ lengthNumbers (lengthIn (write SqlMapping (now (rows .entry)) (now (text .entry)) (length (now (dest .entry))))) ⌝ }
     ensures { λ r. ⌜ now (dest .exit) ≡ written (write SqlMapping (now (rows .entry)) (now (text .entry)) (length (now (dest .entry)))) (now (dest .entry)) ⌝ }
-    ensures { λ r. ⌜ ExactWriting SqlMapping (now (rows .entry)) (now (text .entry)) (now (dest .entry)) (lengthTold (now (answer .exit))) (now (dest .exit)) ⌝ }
+    ensures { λ r. ⌜ ExactWriting (alone SqlMapping) (now (rows .entry)) (now (text .entry)) (now (dest .entry)) (lengthTold (now (answer .exit))) (now (dest .exit)) ⌝ }
 {
     *answer = packing::length_numbers(writer::encode_sql_mapping(rows, text, dest));
 }
@@ -161,7 +161,7 @@ pub extern "C" fn pgrxsc_write_mapping(
 #[no_mangle]
 pub extern "C" fn pgrxsc_metadata_len(rows: &[u32], text: &[u8], answer: &mut [u64; 4])
     ensures { λ r. ⌜ now (answer .exit) ≡ lengthNumbers (lengthIn (measured FunctionMetadataType (now (rows .entry)) (now (text .entry)))) ⌝ }
-    ensures { λ r. ⌜ ExactLength FunctionMetadataType (now (rows .entry)) (now (text .entry)) (lengthTold (now (answer .exit))) ⌝ }
+    ensures { λ r. ⌜ ExactLength (alone FunctionMetadataType) (now (rows .entry)) (now (text .entry)) (lengthTold (now (answer .exit))) ⌝ }
 {
     *answer = packing::length_numbers(writer::function_metadata_type_len(rows, text));
 }
@@ -170,7 +170,7 @@ pub extern "C" fn pgrxsc_metadata_len(rows: &[u32], text: &[u8], answer: &mut [u
 #[no_mangle]
 pub extern "C" fn pgrxsc_mapping_len(rows: &[u32], text: &[u8], answer: &mut [u64; 4])
     ensures { λ r. ⌜ now (answer .exit) ≡ lengthNumbers (lengthIn (measured SqlMapping (now (rows .entry)) (now (text .entry)))) ⌝ }
-    ensures { λ r. ⌜ ExactLength SqlMapping (now (rows .entry)) (now (text .entry)) (lengthTold (now (answer .exit))) ⌝ }
+    ensures { λ r. ⌜ ExactLength (alone SqlMapping) (now (rows .entry)) (now (text .entry)) (lengthTold (now (answer .exit))) ⌝ }
 {
     *answer = packing::length_numbers(writer::sql_mapping_len(rows, text));
 }

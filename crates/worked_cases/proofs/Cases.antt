@@ -14,7 +14,7 @@ use Rattle.layout.specs.Reading.{walk, utf8, readValue, read, refuse}
 use Rattle.layout.specs.Answers.{limit}
 use Rattle.layout.specs.ReadAlone.{readAlone, readingAlone}
 use Rattle.layout.specs.Theorems.{Bytes}
-use Rattle.entry_writer.specs.Writing.{spelled, measured, write}
+use Rattle.entry_writer.specs.Writing.{wholly, spelled, measuredAs, within, measured, write}
 use Rattle.section.specs.Derivation.{Derivation, derive, ProperItems}
 use Rattle.framing.specs.Framing.{boundary, boundaries, framingFrom, framing}
 use Rattle.section.specs.Refusals.{SectionRefusal}
@@ -43,7 +43,7 @@ good : (s : List ℕ) (d : Derivation) → leb (length s) limit ≡ true → Pro
 good s d l p e = record { small = leb-true _ _ l; by = record { proper = p; derives = e } }
 
 pub cases-hold : Cases-hold
-unfolding cases emptySchema skipAndOneOfSkip decimal Entity Schema FunctionMetadataType OptionResolution ArgumentSql ReturnSql Returns SqlMapping walk utf8 readValue read readAlone readingAlone spelled measured write boundary boundaries framingFrom framing readEntity readPayload readPayloads readSection reading lentTable further line rowLines lines listing
+unfolding cases emptySchema skipAndOneOfSkip decimal Entity Schema FunctionMetadataType OptionResolution ArgumentSql ReturnSql Returns SqlMapping walk utf8 readValue read readAlone readingAlone wholly spelled measuredAs measured within write boundary boundaries framingFrom framing readEntity readPayload readPayloads readSection reading lentTable further line rowLines lines listing
 cases-hold = (
   refl,
   good _ _ refl (((omega arith, tt, refl, ((none, omega arith), ((none, omega arith), ((none, omega arith), omega arith)))), omega arith), tt) refl,

@@ -9,7 +9,7 @@ ghost use Rattle.layout.specs.Forms.{times};
 ghost use Rattle.layout.specs.Entities.{ArgumentError, ReturnsError, FunctionMetadataType, OptionResolution, Resolution, TypeOrigin};
 ghost use Rattle.length.specs.Length.{lengthOf};
 ghost use Rattle.entry_writer.specs.Writing.{measured, write, lengthIn, written};
-ghost use Rattle.entry_writer.specs.Refusals.{ExactLength, ExactWriting};
+ghost use Rattle.entry_writer.specs.Refusals.{alone, ExactLength, ExactWriting};
 ghost use Rattle.entry_writer.specs.Run.{consume};
 
 pub fn type_origin(w: EntryWriter, rows: &[u32], text: &[u8]) -> EntryWriter
@@ -181,7 +181,7 @@ pub fn resolution(w: EntryWriter, rows: &[u32], text: &[u8]) -> EntryWriter
 // This and the next seven measure one part from its rows: its length in bytes, or a refusal of 14 to 16. Here: a mapping.
 pub fn sql_mapping_len(rows: &[u32], text: &[u8]) -> Length
     ensures { λ r. ⌜ lengthOf r ≡ lengthIn (measured SqlMapping (now (rows .entry)) (now (text .entry))) ⌝ }
-    ensures { λ r. ⌜ ExactLength SqlMapping (now (rows .entry)) (now (text .entry)) (lengthOf r) ⌝ }
+    ensures { λ r. ⌜ ExactLength (alone SqlMapping) (now (rows .entry)) (now (text .entry)) (lengthOf r) ⌝ }
 {
     let w = sql_mapping(EntryWriter::new(), rows, text);
     w.finish(rows)
@@ -190,7 +190,7 @@ pub fn sql_mapping_len(rows: &[u32], text: &[u8]) -> Length
 // An array's mapping.
 pub fn sql_array_mapping_len(rows: &[u32], text: &[u8]) -> Length
     ensures { λ r. ⌜ lengthOf r ≡ lengthIn (measured SqlArrayMapping (now (rows .entry)) (now (text .entry))) ⌝ }
-    ensures { λ r. ⌜ ExactLength SqlArrayMapping (now (rows .entry)) (now (text .entry)) (lengthOf r) ⌝ }
+    ensures { λ r. ⌜ ExactLength (alone SqlArrayMapping) (now (rows .entry)) (now (text .entry)) (lengthOf r) ⌝ }
 {
     let w = sql_array_mapping(EntryWriter::new(), rows, text);
     w.finish(rows)
@@ -199,7 +199,7 @@ pub fn sql_array_mapping_len(rows: &[u32], text: &[u8]) -> Length
 // What is returned.
 pub fn returns_len(rows: &[u32], text: &[u8]) -> Length
     ensures { λ r. ⌜ lengthOf r ≡ lengthIn (measured Returns (now (rows .entry)) (now (text .entry))) ⌝ }
-    ensures { λ r. ⌜ ExactLength Returns (now (rows .entry)) (now (text .entry)) (lengthOf r) ⌝ }
+    ensures { λ r. ⌜ ExactLength (alone Returns) (now (rows .entry)) (now (text .entry)) (lengthOf r) ⌝ }
 {
     let w = returns(EntryWriter::new(), rows, text);
     w.finish(rows)
@@ -208,7 +208,7 @@ pub fn returns_len(rows: &[u32], text: &[u8]) -> Length
 // An argument-side error.
 pub fn argument_error_len(rows: &[u32], text: &[u8]) -> Length
     ensures { λ r. ⌜ lengthOf r ≡ lengthIn (measured ArgumentError (now (rows .entry)) (now (text .entry))) ⌝ }
-    ensures { λ r. ⌜ ExactLength ArgumentError (now (rows .entry)) (now (text .entry)) (lengthOf r) ⌝ }
+    ensures { λ r. ⌜ ExactLength (alone ArgumentError) (now (rows .entry)) (now (text .entry)) (lengthOf r) ⌝ }
 {
     let w = argument_error(EntryWriter::new(), rows, text);
     w.finish(rows)
@@ -217,7 +217,7 @@ pub fn argument_error_len(rows: &[u32], text: &[u8]) -> Length
 // An argument-side result.
 pub fn argument_sql_len(rows: &[u32], text: &[u8]) -> Length
     ensures { λ r. ⌜ lengthOf r ≡ lengthIn (measured ArgumentSql (now (rows .entry)) (now (text .entry))) ⌝ }
-    ensures { λ r. ⌜ ExactLength ArgumentSql (now (rows .entry)) (now (text .entry)) (lengthOf r) ⌝ }
+    ensures { λ r. ⌜ ExactLength (alone ArgumentSql) (now (rows .entry)) (now (text .entry)) (lengthOf r) ⌝ }
 {
     let w = argument_sql(EntryWriter::new(), rows, text);
     w.finish(rows)
@@ -226,7 +226,7 @@ pub fn argument_sql_len(rows: &[u32], text: &[u8]) -> Length
 // A return-side error.
 pub fn returns_error_len(rows: &[u32], text: &[u8]) -> Length
     ensures { λ r. ⌜ lengthOf r ≡ lengthIn (measured ReturnsError (now (rows .entry)) (now (text .entry))) ⌝ }
-    ensures { λ r. ⌜ ExactLength ReturnsError (now (rows .entry)) (now (text .entry)) (lengthOf r) ⌝ }
+    ensures { λ r. ⌜ ExactLength (alone ReturnsError) (now (rows .entry)) (now (text .entry)) (lengthOf r) ⌝ }
 {
     let w = returns_error(EntryWriter::new(), rows, text);
     w.finish(rows)
@@ -235,7 +235,7 @@ pub fn returns_error_len(rows: &[u32], text: &[u8]) -> Length
 // A return-side result.
 pub fn return_sql_len(rows: &[u32], text: &[u8]) -> Length
     ensures { λ r. ⌜ lengthOf r ≡ lengthIn (measured ReturnSql (now (rows .entry)) (now (text .entry))) ⌝ }
-    ensures { λ r. ⌜ ExactLength ReturnSql (now (rows .entry)) (now (text .entry)) (lengthOf r) ⌝ }
+    ensures { λ r. ⌜ ExactLength (alone ReturnSql) (now (rows .entry)) (now (text .entry)) (lengthOf r) ⌝ }
 {
     let w = return_sql(EntryWriter::new(), rows, text);
     w.finish(rows)
@@ -244,7 +244,7 @@ pub fn return_sql_len(rows: &[u32], text: &[u8]) -> Length
 // A metadata record.
 pub fn function_metadata_type_len(rows: &[u32], text: &[u8]) -> Length
     ensures { λ r. ⌜ lengthOf r ≡ lengthIn (measured FunctionMetadataType (now (rows .entry)) (now (text .entry))) ⌝ }
-    ensures { λ r. ⌜ ExactLength FunctionMetadataType (now (rows .entry)) (now (text .entry)) (lengthOf r) ⌝ }
+    ensures { λ r. ⌜ ExactLength (alone FunctionMetadataType) (now (rows .entry)) (now (text .entry)) (lengthOf r) ⌝ }
 {
     let w = function_metadata_type(EntryWriter::new(), rows, text);
     w.finish(rows)
@@ -254,7 +254,7 @@ pub fn function_metadata_type_len(rows: &[u32], text: &[u8]) -> Length
 pub fn encode_sql_mapping(rows: &[u32], text: &[u8], dest: &mut [u8]) -> Length
     ensures { λ r. ⌜ lengthOf r ≡ lengthIn (write SqlMapping (now (rows .entry)) (now (text .entry)) (length (now (dest .entry)))) ⌝ }
     ensures { λ r. ⌜ now (dest .exit) ≡ written (write SqlMapping (now (rows .entry)) (now (text .entry)) (length (now (dest .entry)))) (now (dest .entry)) ⌝ }
-    ensures { λ r. ⌜ ExactWriting SqlMapping (now (rows .entry)) (now (text .entry)) (now (dest .entry)) (lengthOf r) (now (dest .exit)) ⌝ }
+    ensures { λ r. ⌜ ExactWriting (alone SqlMapping) (now (rows .entry)) (now (text .entry)) (now (dest .entry)) (lengthOf r) (now (dest .exit)) ⌝ }
 {
     let length = entry_writer::fitting(sql_mapping_len(rows, text), dest.len());
     let Length::Counted { count: _ } = length else {
@@ -268,7 +268,7 @@ pub fn encode_sql_mapping(rows: &[u32], text: &[u8], dest: &mut [u8]) -> Length
 pub fn encode_function_metadata_type(rows: &[u32], text: &[u8], dest: &mut [u8]) -> Length
     ensures { λ r. ⌜ lengthOf r ≡ lengthIn (write FunctionMetadataType (now (rows .entry)) (now (text .entry)) (length (now (dest .entry)))) ⌝ }
     ensures { λ r. ⌜ now (dest .exit) ≡ written (write FunctionMetadataType (now (rows .entry)) (now (text .entry)) (length (now (dest .entry)))) (now (dest .entry)) ⌝ }
-    ensures { λ r. ⌜ ExactWriting FunctionMetadataType (now (rows .entry)) (now (text .entry)) (now (dest .entry)) (lengthOf r) (now (dest .exit)) ⌝ }
+    ensures { λ r. ⌜ ExactWriting (alone FunctionMetadataType) (now (rows .entry)) (now (text .entry)) (now (dest .entry)) (lengthOf r) (now (dest .exit)) ⌝ }
 {
     let length = entry_writer::fitting(function_metadata_type_len(rows, text), dest.len());
     let Length::Counted { count: _ } = length else {

@@ -2,7 +2,7 @@
 use mathlib.Core.Path.{ap, _∙_}
 use denote.Ref.{now}
 use Rattle.layout.specs.Entities.{SqlMapping}
-use Rattle.entry_writer.specs.Refusals.{ExactWriting}
+use Rattle.entry_writer.specs.Refusals.{alone, ExactWriting}
 use Rattle.packing.specs.Numbers.{lengthNumbers}
 use Rattle.pgrxsc.proofs.Numbers.{length-told}
 use borrow.Author.Needs.{needs}
@@ -22,7 +22,7 @@ returns : tie.Need-returns
 returns c =
     let a = c .before .before .before .before .before .before .before .before .args in
     let e = c .before .before .before .encode-sql-mapping .ensures in
-    (c .length-numbers .ensures ∙ ap lengthNumbers (e .0), (e .1 .0, length-told (λ l. ExactWriting SqlMapping (now (a .rows)) (now (a .text)) (now (a .dest)) l (c .before .before .before .encode-sql-mapping .last .1 .1 .0)) _ _ (c .length-numbers .ensures) (e .1 .1 .refuses) (e .1 .1)))
+    (c .length-numbers .ensures ∙ ap lengthNumbers (e .0), (e .1 .0, length-told (λ l. ExactWriting (alone SqlMapping) (now (a .rows)) (now (a .text)) (now (a .dest)) l (c .before .before .before .encode-sql-mapping .last .1 .1 .0)) _ _ (c .length-numbers .ensures) (e .1 .1 .refuses) (e .1 .1)))
 
 pub pgrxsc-write-mapping-spec : {M : Type 1} → statement M
 pgrxsc-write-mapping-spec =

@@ -18,7 +18,7 @@ use Rattle.table.specs.Answers.{counted, uncounted}
 use Rattle.entry_writer.specs.Rows.{isRow, plainIn, lentAt, textIn, inRows, staysAt, goodAt, goodRows}
 use Rattle.entry_writer.specs.Writing.{fourteen, wholly, spelled, measuredAs, measured, lengthIn}
 use Rattle.entry_writer.specs.Refusals.{RowGives, Sized}
-use Rattle.entry_writer.specs.State.{newWriter, stoppedWriter, stoppedOnce, past, arrivePlain, pastText, arriveText, consumePlain, consumeText}
+use Rattle.entry_writer.specs.State.{newWriter, stoppedWriter, stoppedOnce, past, lengthTaken, arrivePlain, pastText, arriveText, consumePlain, consumeText}
 use Rattle.entry_writer.specs.declared.EntryWriter.{EntryWriter}
 use Rattle.entry_writer.specs.Run.{writer, consume, closing}
 use Rattle.entry_writer.proofs.Still.{goes-on, writer-still}
@@ -161,6 +161,10 @@ module _ (rows text : List ℕ) where
       let e : n + length (leafBytes x) + length (bytesOf ls) ≡ n + length (bytesOf (x ∷ ls)) = omega (arith, length-append (leafBytes x) (bytesOf ls)) in
       subst (Stands (pushAll (push rows text) (x ∷ ls) w)) e
       (stands-all ls (push rows text x w) (n + length (leafBytes x)) (push-stands x w n s (g .0 .1)) (rw (row-after x w) (g .1)))
+
+  -- And after the length of an entry
+  pub stands-length : (w : EntryWriter) (n : ℕ) → Stands w n → Stands (lengthTaken w) (n + 4)
+  stands-length w n s = record { going = s .going; bad = s .bad; pos = λ h. rw (s .pos h) (cap-add n 4) }
 
   pub stands-new : Stands newWriter 0
   stands-new = record { going = refl; bad = refl; pos = λ h. refl }

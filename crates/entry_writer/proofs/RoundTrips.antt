@@ -16,22 +16,22 @@ use Rattle.layout.specs.ReadAlone.{readingAlone}
 use Rattle.layout.proofs.Alone.{alone-complete, alone-exact}
 use Rattle.layout.proofs.InBytes.{rest-after}
 use Rattle.layout.proofs.Rows.{rows-length}
-use Rattle.layout.proofs.Each.{each-of}
+use Rattle.layout.proofs.Each.{Each, each-of}
 use Rattle.layout.proofs.Walk.{meets-map}
 use Rattle.entry_writer.specs.Rows.{lentAt}
 use Rattle.entry_writer.specs.Writing.{write}
-use Rattle.entry_writer.specs.Refusals.{RowGives, Along, Sized, alone, Spells, GoodText, GoodTexts, Writable}
+use Rattle.entry_writer.specs.Refusals.{RowGives, Along, Sized, Form, alone, Spells, GoodText, GoodTexts}
 use Rattle.entry_writer.specs.Theorems.{ReadsBack, Read-written, Write-read}
 use Rattle.entry_writer.proofs.Along.{along-at, along-map, along-both, along-also}
 use Rattle.entry_writer.proofs.Spelled.{plain-not-text, whole-rows}
 use Rattle.entry_writer.proofs.Exact.{proper-alone, write-exact}
 
 -- A row gives a leaf; for a text, all its bytes
-abbrev Holds : (rows text : List ℕ) → (row : ℕ) → Leaf → Type 0
+abbrev pub Holds : (rows text : List ℕ) → (row : ℕ) → Leaf → Type 0
 Holds rows text i (plain srt n) = RowGives rows text i (plain srt n)
 Holds rows text i (string t) = (sortAt rows i ≡ textSort) × (valueAt rows i ≡ length t) × (lentAt rows text i ≡ t) × (offsetAt rows i + valueAt rows i ≤ length text)
 
-abbrev HoldAll : (rows text : List ℕ) → (row : ℕ) → List Leaf → Type 0
+abbrev pub HoldAll : (rows text : List ℕ) → (row : ℕ) → List Leaf → Type 0
 HoldAll rows text = Along (Holds rows text)
 
 -- The numbers of a row after others
@@ -62,7 +62,7 @@ row-width at (plain srt n) = refl
 row-width at (string t) = refl
 
 -- The rows of leaves hold them
-rows-hold : (ls : List Leaf) (before after s : List ℕ) (i at : ℕ) (rest : List ℕ) → length before ≡ rowWidth * i → drop at s ≡ bytesOf ls ++ rest
+pub rows-hold : (ls : List Leaf) (before after s : List ℕ) (i at : ℕ) (rest : List ℕ) → length before ≡ rowWidth * i → drop at s ≡ bytesOf ls ++ rest
     → HoldAll (before ++ (rowsFrom at ls ++ after)) s i ls
 rows-hold [] before after s i at rest l e = tt
 rows-hold (x ∷ ls) before after s i at rest l e =
@@ -92,7 +92,7 @@ holds-good : (rows text : List ℕ) (i : ℕ) (x : Leaf) → Holds rows text i x
 holds-good rows text i (plain srt n) h s = absurd (plain-not-text srt (sym (h .0 .0) ∙ s))
 holds-good rows text i (string t) h s = (h .0 .3, subst Utf8 (sym (h .0 .2)) (h .1 .0))
 
-fits-sized : (x : Leaf) → Fits x → Sized x
+pub fits-sized : (x : Leaf) → Fits x → Sized x
 fits-sized (plain srt n) h = h
 fits-sized (string t) h = tt
 
@@ -110,7 +110,61 @@ alike rows text other b i (plain srt n) (g, h) = record {
 }
 alike rows text other b i (string t) (g, h) = record { sorts = h .0 ∙ sym (g .0); values = h .1 ∙ sym (g .1); texts = λ s. h .2 ∙ sym (g .2) }
 
--- The rows of a value in a table, with only 0 after them
+-- Rows that hold the leaves of a value spell it, and their texts are good
+module _ (F : Form) (rows text : List ℕ) (v : F .Content) (w : length rows ≡ rowWidth * length (F .leaves v)) (h : HoldAll rows text 0 (F .leaves v)) where
+  pub hold-spells : F .Allowed v → Spells F rows text v
+  hold-spells a = record {
+    allowed = a;
+    whole = w;
+    give = along-map (Holds rows text) (RowGives rows text) 0 (F .leaves v) (λ k x a b g. holds-gives rows text k x g) h;
+  }
+
+  pub hold-good : Each Fits (F .leaves v) → GoodTexts rows text
+  hold-good f i k =
+      let n : wholeRows rows ≡ length (F .leaves v) = whole-rows rows (length (F .leaves v)) w in
+      along-at (λ k x. Holds rows text k x × Fits x) (λ k. sortAt rows k ≡ textSort → GoodText rows text k) (holds-good rows text) 0 (F .leaves v)
+      (along-also (Holds rows text) Fits 0 (F .leaves v) h f) i (omega arith) (omega arith)
+
+zero-beyond : (rows : List ℕ) (m k : ℕ) → length rows ≤ k → getD (rows ++ replicate m 0) k 0 ≡ 0
+zero-beyond rows m k h =
+    let e : k ≡ length rows + (k - length rows) = omega arith in
+    ap (λ (i : ℕ). getD (rows ++ replicate m 0) i 0) e ∙ getD-append-add rows (replicate m 0) (k - length rows) 0 ∙ zeros m (k - length rows)
+  where
+    zeros : (m i : ℕ) → getD {A = ℕ} (replicate m 0) i 0 ≡ 0
+    zeros zero i = refl
+    zeros (suc m) zero = refl
+    zeros (suc m) (suc i) = zeros m i
+
+-- Good rows that spell a value are returned by a reading whose rows hold its leaves
+module _ (F : Form) (rows text : List ℕ) (v : F .Content) (s : Spells F rows text v) (good : GoodTexts rows text) where
+  abbrev spelt : List Leaf
+  spelt = F .leaves v
+
+  spelt-rows : wholeRows rows ≡ length spelt
+  spelt-rows = whole-rows rows (length spelt) (s .whole)
+
+  given-hold : HoldAll rows text 0 spelt
+  given-hold = along-map (RowGives rows text) (Holds rows text) 0 spelt (λ k x a h g. good-holds rows text k x (good k (omega (arith, spelt-rows))) g) (s .give)
+
+  pub returned : (b found : List ℕ) (m entities : ℕ) → length found ≡ rowWidth * length spelt → HoldAll (found ++ replicate m 0) b 0 spelt
+      → (r : Result) → r .answer ≡ accepted entities (length spelt) → r .table ≡ found ++ replicate m 0 → ReadsBack rows text b entities r
+  returned b found m entities l h r a t = record {
+    answer = a ∙ ap (accepted entities) (sym spelt-rows);
+    sorts = λ i k. rw t (same i k .sorts);
+    values = λ i k. rw t (same i k .values);
+    texts = λ i k. rw t (same i k .texts);
+    zeros = λ k j. rw t (zero-beyond found m k (omega (arith, l, spelt-rows)));
+  }
+    where
+      table : List ℕ
+      table = found ++ replicate m 0
+
+      same : (i : ℕ) → i < wholeRows rows → Alike rows text table b i
+      same i k =
+          along-at (λ k x. Holds rows text k x × Holds table b k x) (Alike rows text table b) (alike rows text table b) 0 spelt
+          (along-both (Holds rows text) (Holds table b) 0 spelt given-hold h) i (omega arith) (omega (arith, spelt-rows))
+
+-- The rows of one value alone in a table, with only 0 after them
 module _ (L : Layout) (s : List ℕ) (v : Value L) (d : Derives L s v) where
   abbrev ls : List Leaf
   ls = leaves L v
@@ -118,26 +172,12 @@ module _ (L : Layout) (s : List ℕ) (v : Value L) (d : Derives L s v) where
   stored-hold : (zeros : List ℕ) → HoldAll (rowsFrom 0 ls ++ zeros) s 0 ls
   stored-hold zeros = rows-hold ls [] zeros s 0 0 [] (omega arith) (sym (d .derives) ∙ sym (append-nil (bytes L v)))
 
-  -- The rows of a reading spell what was read
-  rows-spell : Spells (alone L) (rowsFrom 0 ls) s v
-  rows-spell = record {
-    allowed = meets-map fits-sized L v (d .proper);
-    whole = rows-length 0 ls;
-    give = along-map (Holds (rowsFrom 0 ls) s) (RowGives (rowsFrom 0 ls) s) 0 ls (λ k x a b h. holds-gives (rowsFrom 0 ls) s k x h) hold;
-  }
-    where
-      hold : HoldAll (rowsFrom 0 ls) s 0 ls
-      hold = subst (λ (t : List ℕ). HoldAll t s 0 ls) (append-nil (rowsFrom 0 ls)) (stored-hold [])
-
-  rows-good : GoodTexts (rowsFrom 0 ls) s
-  rows-good i h =
-      let hold : HoldAll (rowsFrom 0 ls) s 0 ls = subst (λ (t : List ℕ). HoldAll t s 0 ls) (append-nil (rowsFrom 0 ls)) (stored-hold []) in
-      let w : wholeRows (rowsFrom 0 ls) ≡ length ls = whole-rows (rowsFrom 0 ls) (length ls) (rows-length 0 ls) in
-      along-at (λ k x. Holds (rowsFrom 0 ls) s k x × Fits x) (λ k. sortAt (rowsFrom 0 ls) k ≡ textSort → GoodText (rowsFrom 0 ls) s k) (holds-good (rowsFrom 0 ls) s) 0 ls
-      (along-also (Holds (rowsFrom 0 ls) s) Fits 0 ls hold (each-of Fits L v (d .proper))) i (omega arith) (omega arith)
-
   written-back : (size : ℕ) → length s ≤ size → write L (rowsFrom 0 ls) s size ≡ ok s (length s)
-  written-back size h = write-exact L (rowsFrom 0 ls) s size s (length s) .1 (v, record { spells = rows-spell; texts = rows-good; small = omega (arith, ap length (d .derives), d .small) }, sym (d .derives), refl, h)
+  written-back size h =
+      let hold : HoldAll (rowsFrom 0 ls) s 0 ls = subst (λ (t : List ℕ). HoldAll t s 0 ls) (append-nil (rowsFrom 0 ls)) (stored-hold []) in
+      let spells = hold-spells (alone L) (rowsFrom 0 ls) s v (rows-length 0 ls) hold (meets-map fits-sized L v (d .proper)) in
+      let texts = hold-good (alone L) (rowsFrom 0 ls) s v (rows-length 0 ls) hold (each-of Fits L v (d .proper)) in
+      write-exact L (rowsFrom 0 ls) s size s (length s) .1 (v, record { spells = spells; texts = texts; small = omega (arith, ap length (d .derives), d .small) }, sym (d .derives), refl, h)
 
 accepted-back : (L : Layout) (entities : ℕ) (s table : List ℕ) (r : Result) (n : ℕ) (v : Value L) → Derives L s v → r ≡ acceptance (given entities (leaves L v)) table
     → r .answer ≡ accepted entities n → (size : ℕ) → length s ≤ size → write L (take (rowWidth * n) (r .table)) s size ≡ ok s (length s)
@@ -156,47 +196,13 @@ write-read L entities s u table r n e a size h =
     let (v, d, fits) = x .accepts .0 (ap (λ (y : Result). y .answer .accepts) (sym e) ∙ ap (λ (y : Answer). y .accepts) a) in
     accepted-back L entities s table r n v d (e ∙ x .fits v d fits) a size h
 
-zero-beyond : (rows : List ℕ) (m k : ℕ) → length rows ≤ k → getD (rows ++ replicate m 0) k 0 ≡ 0
-zero-beyond rows m k h =
-    let e : k ≡ length rows + (k - length rows) = omega arith in
-    ap (λ (i : ℕ). getD (rows ++ replicate m 0) i 0) e ∙ getD-append-add rows (replicate m 0) (k - length rows) 0 ∙ zeros m (k - length rows)
-  where
-    zeros : (m i : ℕ) → getD {A = ℕ} (replicate m 0) i 0 ≡ 0
-    zeros zero i = refl
-    zeros (suc m) zero = refl
-    zeros (suc m) (suc i) = zeros m i
-
-module _ (L : Layout) (rows text b : List ℕ) (v : Value L) (d : Derives L b v) (s : Spells (alone L) rows text v) (good : GoodTexts rows text) where
-  abbrev spelt : List Leaf
-  spelt = leaves L v
-
-  spelt-rows : wholeRows rows ≡ length spelt
-  spelt-rows = whole-rows rows (length spelt) (s .whole)
-
-  given-hold : HoldAll rows text 0 spelt
-  given-hold = along-map (RowGives rows text) (Holds rows text) 0 spelt (λ k x a h g. good-holds rows text k x (good k (omega (arith, spelt-rows))) g) (s .give)
-
-  rows-alike : (zeros : List ℕ) (i : ℕ) → i < wholeRows rows → Alike rows text (rowsFrom 0 spelt ++ zeros) b i
-  rows-alike zeros i h =
-      let table = rowsFrom 0 spelt ++ zeros in
-      along-at (λ k x. Holds rows text k x × Holds table b k x) (Alike rows text table b) (alike rows text table b) 0 spelt
-      (along-both (Holds rows text) (Holds table b) 0 spelt given-hold (stored-hold L b v d zeros)) i (omega arith) (omega (arith, spelt-rows))
-
-  returned : (entities : ℕ) (table : List ℕ) → wholeRows rows ≤ wholeRows table → ReadsBack rows text b entities (readingAlone L entities b table)
-  unfolding readingAlone
-  returned entities table room =
-      let zeros : List ℕ = replicate (length table - rowWidth * length spelt) 0 in
-      rw (alone-complete L entities b v d, le-leb (length spelt) (wholeRows table) (omega (arith, spelt-rows)))
-      (record {
-        answer = ap (accepted entities) (sym spelt-rows);
-        sorts = λ i h. rows-alike zeros i h .sorts;
-        values = λ i h. rows-alike zeros i h .values;
-        texts = λ i h. rows-alike zeros i h .texts;
-        zeros = λ k h. zero-beyond (rowsFrom 0 spelt) (length table - rowWidth * length spelt) k (omega (arith, rows-length 0 spelt, spelt-rows));
-      })
-
 pub read-written : Read-written
+unfolding readingAlone
 read-written L entities rows text size b n e table room =
     let (v, w, x, y, fits) = write-exact L rows text size b n .0 e in
+    let ls = leaves L v in
     let d : Derives L b v = record { small = omega (arith, ap length x, w .small); proper = proper-alone L rows text v w; derives = sym x } in
-    returned L rows text b v d (w .spells) (w .texts) entities table room
+    let enough : length ls ≤ wholeRows table = omega (arith, whole-rows rows (length ls) (w .spells .whole)) in
+    let m = length table - rowWidth * length ls in
+    rw (alone-complete L entities b v d, le-leb (length ls) (wholeRows table) enough)
+    (returned (alone L) rows text v (w .spells) (w .texts) b (rowsFrom 0 ls) m entities (rows-length 0 ls) (stored-hold L b v d (replicate m 0)) _ refl refl)

@@ -1,0 +1,5 @@
+pub mod EntityKinds
+pub mod Spelled
+pub mod Exact
+pub mod Passes
+pub mod RoundTrips

@@ -1,0 +1,1 @@
+// The writer of a section of one or more entities, from rows: entries without sentinel or padding.

@@ -10,8 +10,8 @@ ghost use Rattle.layout.specs.ReadAlone.{readingAlone};
 ghost use Rattle.leaf.specs.State.{readState};
 ghost use Rattle.leaf.specs.Run.{run};
 ghost use Rattle.table.specs.Answers.{resultOf};
-ghost use Rattle.entity.specs.Private.{NameFileLine, TypePaths, CustomSqlText, FunctionSignature, FunctionOrigin, FunctionOptions};
-ghost use Rattle.entity.specs.Private.{TypeFunctions, AggregateName, AggregateTypes, AggregateFunctions, MovingAggregate, AggregateOptions};
+ghost use Rattle.layout.specs.Private.{NameFileLine, TypePaths, CustomSqlText, FunctionSignature, FunctionOrigin, FunctionOptions};
+ghost use Rattle.layout.specs.Private.{TypeFunctions, AggregateName, AggregateTypes, AggregateFunctions, MovingAggregate, AggregateOptions};
 
 pub fn read_finalize_modify(c: Cursor, s: &[u8], t: &mut [u32]) -> Cursor
     ensures { λ r. ⌜ readState r (now (t .exit)) ≡ run FinalizeModify (now (s .entry)) (readState c (now (t .entry))) ⌝ }

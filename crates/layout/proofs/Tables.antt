@@ -6,7 +6,7 @@ use mathlib.Core.List.{[], _∷_, _++_}
 use mathlib.Core.Logic.{_≢_}
 use mathlib.Core.Path.{_≡_, refl}
 use lib.Dec.{eqb}
-use borrow.Author.Tests.{ne-eqb, eqb-false}
+use borrow.Author.Tests.{ne-eqb, eqb-true, eqb-false}
 use Rattle.layout.specs.Layout.{Fault, fine, wrong, nothing}
 use Rattle.layout.specs.Forms.{Tags, _⇒_, known, follows}
 
@@ -37,3 +37,11 @@ bare-in f a (suc k) rows n h l = go (eqb n a) refl (λ e. bare-in f (suc a) k ro
         → (cond x fine (known f (bare (suc a) k ++ rows) n) ≡ fine) × (cond x nothing (follows (bare (suc a) k ++ rows) n) ≡ nothing)
     go true e i = (refl, refl)
     go false e i = i (eqb-false n a e)
+
+-- A number of at least a and below a + 2 is one of two: what holds in both cases holds
+pub of-two : {G : Type 0} (a n : ℕ) → a ≤ n → n < a + 2 → (n ≡ a → G) → (n ≡ a + 1 → G) → G
+of-two {G = G} a n h l f g = go (eqb n a) refl
+  where
+    go : (x : Bool) → eqb n a ≡ x → G
+    go true e = f (eqb-true n a e)
+    go false e = g (omega (arith, eqb-false n a e))

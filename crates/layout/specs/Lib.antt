@@ -9,3 +9,4 @@ pub mod Answers
 pub mod Alone
 pub mod ReadAlone
 pub mod Theorems
+pub mod Private

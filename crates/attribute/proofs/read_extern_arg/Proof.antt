@@ -5,7 +5,8 @@ use mathlib.Core.Path.{_∙_, refl}
 use lib.ListN.{drop}
 use Rattle.layout.specs.Entities.{externArgs, ExternArg}
 use Rattle.layout.proofs.Forms.{tags-bare, tags-in, tags-wrong}
-use Rattle.leaf.proofs.Handing.{copy-in, of-two}
+use Rattle.layout.proofs.Tables.{of-two}
+use Rattle.leaf.proofs.Handing.{copy-in}
 use Rattle.attribute.proofs.read_extern_arg.Statement.{statement}
 use Rattle.attribute.proofs.read_extern_arg.Tie as tie
 

@@ -4,7 +4,7 @@ use mathlib.Core.Logic.{⊎-elim}
 use mathlib.Core.Path.{_∙_, refl}
 use Rattle.layout.specs.Entities.{PositioningRef, positioningRefs}
 use Rattle.layout.proofs.Forms.{tags-in, tags-wrong}
-use Rattle.leaf.proofs.Handing.{of-two}
+use Rattle.layout.proofs.Tables.{of-two}
 use Rattle.attribute.proofs.read_positioning_ref.Statement.{statement}
 use Rattle.attribute.proofs.read_positioning_ref.Tie as tie
 

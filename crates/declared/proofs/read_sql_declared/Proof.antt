@@ -5,7 +5,7 @@ use mathlib.Core.Path.{refl}
 use Rattle.layout.proofs.Forms.{after-in, after-wrong, drive-nothing}
 use Rattle.layout.specs.Entities.{SqlDeclared, sqlDeclareds}
 use Rattle.layout.specs.Layout.{text}
-use Rattle.leaf.proofs.Handing.{of-two}
+use Rattle.layout.proofs.Tables.{of-two}
 use borrow.Author.Needs.{needs}
 use Rattle.declared.proofs.read_sql_declared.Statement.{statement}
 use Rattle.declared.proofs.read_sql_declared.Tie as tie

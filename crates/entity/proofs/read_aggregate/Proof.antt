@@ -1,6 +1,6 @@
 -- The parts, one after the other.
 use mathlib.Core.Path.{_∙_}
-use Rattle.entity.specs.Private.{AggregateName, AggregateTypes, AggregateFunctions, MovingAggregate, AggregateOptions}
+use Rattle.layout.specs.Private.{AggregateName, AggregateTypes, AggregateFunctions, MovingAggregate, AggregateOptions}
 use Rattle.layout.specs.Entities.{Aggregate}
 use Rattle.layout.specs.Machine.{drive}
 use Rattle.entity.proofs.read_aggregate.Statement.{statement}

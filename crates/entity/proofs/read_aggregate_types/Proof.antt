@@ -1,6 +1,6 @@
 -- The parts, one after the other.
 use mathlib.Core.Path.{_∙_}
-use Rattle.entity.specs.Private.{AggregateTypes}
+use Rattle.layout.specs.Private.{AggregateTypes}
 use Rattle.layout.proofs.Forms.{then-in}
 use Rattle.entity.proofs.read_aggregate_types.Statement.{statement}
 use Rattle.entity.proofs.read_aggregate_types.Tie as tie

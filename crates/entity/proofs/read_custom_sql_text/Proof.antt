@@ -1,6 +1,6 @@
 -- The parts, one after the other.
 use mathlib.Core.Path.{_∙_}
-use Rattle.entity.specs.Private.{CustomSqlText}
+use Rattle.layout.specs.Private.{CustomSqlText}
 use Rattle.layout.proofs.Forms.{then-in}
 use Rattle.entity.proofs.read_custom_sql_text.Statement.{statement}
 use Rattle.entity.proofs.read_custom_sql_text.Tie as tie

@@ -5,7 +5,7 @@ use mathlib.Core.Logic.{_≢_, ⊎-elim}
 use mathlib.Core.Path.{_∙_, refl}
 use Rattle.layout.specs.Entities.{Entity, entityKinds}
 use Rattle.layout.proofs.Forms.{kinds-in, kinds-wrong}
-use Rattle.leaf.proofs.Handing.{of-two}
+use Rattle.layout.proofs.Tables.{of-two}
 use Rattle.entity.proofs.read_entity.Statement.{statement}
 use Rattle.entity.proofs.read_entity.Tie as tie
 

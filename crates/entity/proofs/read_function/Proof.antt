@@ -1,6 +1,6 @@
 -- The parts, one after the other.
 use mathlib.Core.Path.{_∙_}
-use Rattle.entity.specs.Private.{FunctionSignature, FunctionOrigin, FunctionOptions}
+use Rattle.layout.specs.Private.{FunctionSignature, FunctionOrigin, FunctionOptions}
 use Rattle.layout.specs.Entities.{Function}
 use Rattle.layout.specs.Machine.{drive}
 use Rattle.entity.proofs.read_function.Statement.{statement}

@@ -1,6 +1,6 @@
 -- The parts, one after the other.
 use mathlib.Core.Path.{_∙_}
-use Rattle.entity.specs.Private.{MovingAggregate}
+use Rattle.layout.specs.Private.{MovingAggregate}
 use Rattle.layout.proofs.Forms.{then-in}
 use Rattle.entity.proofs.read_moving_aggregate.Statement.{statement}
 use Rattle.entity.proofs.read_moving_aggregate.Tie as tie

@@ -1,6 +1,6 @@
 -- The parts, one after the other.
 use mathlib.Core.Path.{_∙_}
-use Rattle.entity.specs.Private.{NameFileLine}
+use Rattle.layout.specs.Private.{NameFileLine}
 use Rattle.layout.proofs.Forms.{then-in}
 use Rattle.entity.proofs.read_name_file_line.Statement.{statement}
 use Rattle.entity.proofs.read_name_file_line.Tie as tie

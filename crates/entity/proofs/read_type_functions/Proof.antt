@@ -1,6 +1,6 @@
 -- The parts, one after the other.
 use mathlib.Core.Path.{_∙_}
-use Rattle.entity.specs.Private.{TypeFunctions}
+use Rattle.layout.specs.Private.{TypeFunctions}
 use Rattle.layout.proofs.Forms.{then-in}
 use Rattle.entity.proofs.read_type_functions.Statement.{statement}
 use Rattle.entity.proofs.read_type_functions.Tie as tie

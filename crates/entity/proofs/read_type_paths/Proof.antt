@@ -1,6 +1,6 @@
 -- The parts, one after the other.
 use mathlib.Core.Path.{_∙_}
-use Rattle.entity.specs.Private.{TypePaths}
+use Rattle.layout.specs.Private.{TypePaths}
 use Rattle.layout.proofs.Forms.{then-in}
 use Rattle.entity.proofs.read_type_paths.Statement.{statement}
 use Rattle.entity.proofs.read_type_paths.Tie as tie

@@ -4,7 +4,8 @@ use mathlib.Core.Logic.{⊎-elim}
 use mathlib.Core.Path.{_∙_, refl}
 use Rattle.layout.specs.Entities.{Returns, returnsTags}
 use Rattle.layout.proofs.Forms.{tags-in, tags-wrong}
-use Rattle.leaf.proofs.Handing.{copy-in, of-two}
+use Rattle.layout.proofs.Tables.{of-two}
+use Rattle.leaf.proofs.Handing.{copy-in}
 use Rattle.metadata.proofs.read_returns.Statement.{statement}
 use Rattle.metadata.proofs.read_returns.Tie as tie
 

@@ -4,7 +4,7 @@ use mathlib.Core.Logic.{⊎-elim}
 use mathlib.Core.Path.{_∙_, refl}
 use Rattle.layout.specs.Entities.{PgExternReturn, pgExternReturns}
 use Rattle.layout.proofs.Forms.{drive-nothing, tags-in, tags-wrong}
-use Rattle.leaf.proofs.Handing.{of-two}
+use Rattle.layout.proofs.Tables.{of-two}
 use Rattle.used.proofs.read_pg_extern_return.Statement.{statement}
 use Rattle.used.proofs.read_pg_extern_return.Tie as tie
 

@@ -1,0 +1,22 @@
+-- With the optional part, or without it.
+use Rattle.layout.specs.Entities.{SearchPath}
+use Rattle.layout.proofs.Forms.{may-in, may-out}
+use Rattle.attribute_writer.proofs.search_path.Statement.{statement}
+use Rattle.attribute_writer.proofs.search_path.Tie as tie
+
+bool-requires : tie.Need-bool-requires
+bool-requires c κs = tt
+
+str-list-requires : tie.Need-str-list-requires
+str-list-requires c κs = tt
+
+returns : tie.Need-returns
+unfolding SearchPath
+returns c = may-in _ _ _ _ _ (c .before .before .before .bool .ensures) (c .before .if1 .taken) (c .str-list .ensures)
+
+returns-2 : tie.Need-returns-2
+unfolding SearchPath
+returns-2 c = may-out _ _ _ _ (c .before .before .bool .ensures) (c .if1 .left)
+
+pub search-path-spec : {M : Type 1} → statement M
+search-path-spec = tie.close (tie.spec bool-requires str-list-requires returns returns-2)

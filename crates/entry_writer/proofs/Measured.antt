@@ -7,7 +7,7 @@ use mathlib.Core.List.{List, [], _∷_}
 use mathlib.Core.Path.{_≡_, refl, sym, ap, subst, _∙_}
 use lib.Dec.{eqb, ltb, leb}
 use lib.ListN.{length, length-append}
-use borrow.Author.Tests.{eqb-true, eq-eqb, ne-eqb, leb-false, lt-leb}
+use borrow.Author.Tests.{eqb-true, eqb-false, eq-eqb, ne-eqb, leb-false, lt-leb}
 use Rattle.layout.specs.Layout.{Sort, Leaf, plain, string, Layout, Value, leaves, Meets, bound}
 use Rattle.layout.specs.Written.{textSort, leafBytes, bytesOf, bytes, rowWidth, sortNumber, sortAt, valueAt}
 use Rattle.layout.specs.Reading.{Outcome, ok, refuse, _>>=_, need, walk, leavesAt, utf8}
@@ -21,7 +21,7 @@ use Rattle.entry_writer.specs.Refusals.{RowGives, Sized}
 use Rattle.entry_writer.specs.State.{newWriter, stoppedWriter, stoppedOnce, past, lengthTaken, arrivePlain, pastText, arriveText, consumePlain, consumeText}
 use Rattle.entry_writer.specs.declared.EntryWriter.{EntryWriter}
 use Rattle.entry_writer.specs.Run.{writer, consume, closing}
-use Rattle.entry_writer.proofs.Still.{goes-on, writer-still}
+use Rattle.entry_writer.proofs.Still.{goes-on, writer-still, run-refused}
 use Rattle.entry_writer.proofs.Spelled.{plain-not-text, Given, Begins, whole-rows, walk-sound}
 
 module _ (rows text : List ℕ) where
@@ -96,6 +96,21 @@ module _ (rows text : List ℕ) where
   -- A writing takes the leaves of the value that is read from the rows, or is refused
   writes : (L : Layout) (w : EntryWriter) → w .refusal ≡ 0 → Follows gait w (consume L rows text w) (leavesAt (inRows rows text) L (w .row))
   writes L w z = follow (inRows rows text) (writer rows text) gait writer-keeps L w z
+
+  -- A writing that is not refused took the leaves of a value
+  pub taken : (L : Layout) (w : EntryWriter) → consume L rows text w .refusal ≡ 0
+      → (v : Value L) × (leavesAt (inRows rows text) L (w .row) ≡ ok (leaves L v) (consume L rows text w .row)) × Given rows text (w .row) (leaves L v)
+  taken L w z = go (walk (inRows rows text) L (w .row)) refl (walk-sound L rows text (w .row)) (writes L w (begun (eqb (w .refusal) 0) refl))
+    where
+      begun : (b : Bool) → eqb (w .refusal) 0 ≡ b → w .refusal ≡ 0
+      begun true e = eqb-true _ _ e
+      begun false e = sym (ap (λ (x : EntryWriter). x .refusal) (run-refused L rows text w (eqb-false _ _ e))) ∙ z
+
+      go : (m : Outcome ℕ (Value L)) → walk (inRows rows text) L (w .row) ≡ m → All (λ v end. Meets Sized L v × Begins rows text (w .row) (leaves L v) end) m
+          → Follows gait w (consume L rows text w) (m >>= λ v end. ok (leaves L v) end)
+          → (v : Value L) × (leavesAt (inRows rows text) L (w .row) ≡ ok (leaves L v) (consume L rows text w .row)) × Given rows text (w .row) (leaves L v)
+      go (ok v end) e h f = (v, rw (e, moved-of f .1), all-ok h refl .1 .gives)
+      go (refuse n p) e h f = let k : _≡_ {A = ℕ} 14 0 = sym (stops-of f) ∙ z in absurd (omega arith)
 
 not-and : (a b : Bool) → not (a && b) ≡ (not a || not b)
 not-and true b = refl

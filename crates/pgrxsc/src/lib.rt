@@ -17,6 +17,8 @@ ghost use Rattle.sql_text.specs.SqlText.{sqlText, filled, sqlAnswer};
 ghost use Rattle.paths.specs.Paths.{report};
 ghost use Rattle.entry_writer.specs.Writing.{measured, write, lengthIn, written};
 ghost use Rattle.entry_writer.specs.Refusals.{alone, ExactLength, ExactWriting};
+ghost use Rattle.section_writer.specs.Form.{section};
+ghost use Rattle.section_writer.specs.Writing.{measuredSection, writeSection};
 ghost use Rattle.pgrxsc.specs.Version.{version};
 ghost use Rattle.packing.specs.Numbers.{answerNumbers, resultIn, partNumbers, placeNumbers, inBuffer, lengthNumbers, lengthTold, reportNumbers, pairsIn};
 
@@ -157,6 +159,36 @@ pub extern "C" fn pgrxsc_write_mapping(
     *answer = packing::length_numbers(writer::encode_sql_mapping(rows, text, dest));
 }
 
+// The same for one entity, as a payload.
+#[no_mangle]
+pub extern "C" fn pgrxsc_write_payload(
+    rows: &[u32],
+    text: &[u8],
+    dest: &mut [u8],
+    answer: &mut [u64; 4],
+)
+    ensures { λ r. ⌜ now (answer .exit) ≡ lengthNumbers (lengthIn (write Entity (now (rows .entry)) (now (text .entry)) (length (now (dest .entry))))) ⌝ }
+    ensures { λ r. ⌜ now (dest .exit) ≡ written (write Entity (now (rows .entry)) (now (text .entry)) (length (now (dest .entry)))) (now (dest .entry)) ⌝ }
+    ensures { λ r. ⌜ ExactWriting (alone Entity) (now (rows .entry)) (now (text .entry)) (now (dest .entry)) (lengthTold (now (answer .exit))) (now (dest .exit)) ⌝ }
+{
+    *answer = packing::length_numbers(entity_writer::encode_entity(rows, text, dest));
+}
+
+// The same for a section of one or more entities, without sentinel and padding.
+#[no_mangle]
+pub extern "C" fn pgrxsc_write_section(
+    rows: &[u32],
+    text: &[u8],
+    dest: &mut [u8],
+    answer: &mut [u64; 4],
+)
+    ensures { λ r. ⌜ now (answer .exit) ≡ lengthNumbers (lengthIn (writeSection (now (rows .entry)) (now (text .entry)) (length (now (dest .entry))))) ⌝ }
+    ensures { λ r. ⌜ now (dest .exit) ≡ written (writeSection (now (rows .entry)) (now (text .entry)) (length (now (dest .entry)))) (now (dest .entry)) ⌝ }
+    ensures { λ r. ⌜ ExactWriting section (now (rows .entry)) (now (text .entry)) (now (dest .entry)) (lengthTold (now (answer .exit))) (now (dest .exit)) ⌝ }
+{
+    *answer = packing::length_numbers(section_writer::encode_entities(rows, text, dest));
+}
+
 // Measures a metadata record, from rows and lent text bytes, before it is written. The third number is its length.
 #[no_mangle]
 pub extern "C" fn pgrxsc_metadata_len(rows: &[u32], text: &[u8], answer: &mut [u64; 4])
@@ -173,6 +205,24 @@ pub extern "C" fn pgrxsc_mapping_len(rows: &[u32], text: &[u8], answer: &mut [u6
     ensures { λ r. ⌜ ExactLength (alone SqlMapping) (now (rows .entry)) (now (text .entry)) (lengthTold (now (answer .exit))) ⌝ }
 {
     *answer = packing::length_numbers(writer::sql_mapping_len(rows, text));
+}
+
+// The same for one entity, as a payload.
+#[no_mangle]
+pub extern "C" fn pgrxsc_payload_len(rows: &[u32], text: &[u8], answer: &mut [u64; 4])
+    ensures { λ r. ⌜ now (answer .exit) ≡ lengthNumbers (lengthIn (measured Entity (now (rows .entry)) (now (text .entry)))) ⌝ }
+    ensures { λ r. ⌜ ExactLength (alone Entity) (now (rows .entry)) (now (text .entry)) (lengthTold (now (answer .exit))) ⌝ }
+{
+    *answer = packing::length_numbers(entity_writer::entity_len(rows, text));
+}
+
+// The same for a section of one or more entities, without sentinel and padding.
+#[no_mangle]
+pub extern "C" fn pgrxsc_section_len(rows: &[u32], text: &[u8], answer: &mut [u64; 4])
+    ensures { λ r. ⌜ now (answer .exit) ≡ lengthNumbers (lengthIn (measuredSection (now (rows .entry)) (now (text .entry)))) ⌝ }
+    ensures { λ r. ⌜ ExactLength section (now (rows .entry)) (now (text .entry)) (lengthTold (now (answer .exit))) ⌝ }
+{
+    *answer = packing::length_numbers(section_writer::entities_len(rows, text));
 }
 
 // The number of pairs of entities with the same full_path. It does not depend on `work`; what `work` holds afterwards is free.

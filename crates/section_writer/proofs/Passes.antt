@@ -19,15 +19,21 @@ use Rattle.section.specs.Demand3.{Good}
 use Rattle.entry_writer.specs.Rows.{inRows}
 use Rattle.entry_writer.specs.State.{newWriter, stoppedOnce, lengthTaken}
 use Rattle.entry_writer.specs.declared.EntryWriter.{EntryWriter}
-use Rattle.entry_writer.specs.Refusals.{RowGives, Sized, Writable}
+use Rattle.table.specs.Answers.{Total, counted, uncounted}
+use Rattle.entry_writer.specs.Run.{closing}
+use Rattle.entry_writer.specs.Writing.{lengthIn, written}
+use Rattle.entry_writer.specs.Writing as writing
+use Rattle.entry_writer.specs.Refusals.{RowGives, Sized, Writable, ExactLength, ExactWriting}
 use Rattle.entry_writer.specs.Storing.{Gives, KindsFirst, entriesOf, StoresEntries}
 use Rattle.entry_writer.proofs.Along.{along-also}
 use Rattle.entry_writer.proofs.Spelled.{spells-given, fitting}
 use Rattle.entry_writer.proofs.Measured.{Stands, Reached, arrives, halts, reached-as, stands-length, stands-new, consumed}
 use Rattle.section_writer.specs.Form.{sectionOf, sectionBytes, sectionLeaves, EachAllowed, section}
-use Rattle.section_writer.specs.Writing.{entitiesIn}
+use Rattle.section_writer.specs.Writing.{entitiesIn, spelledEntities, measuredSection, writeSection}
 use Rattle.section_writer.specs.Private.{consumeEntry, consumeEntities}
+use Rattle.entry_writer.proofs.Passes.{length-passed, refusal-passed, bytes-passed}
 use Rattle.section_writer.proofs.EntityKinds.{kind-first}
+use Rattle.section_writer.proofs.Spelled.{takes-section}
 
 -- The bytes of an entry come before those of the others
 entry-length : (v : Value Entity) (vs : List (Value Entity)) → length (sectionBytes (v ∷ vs)) ≡ 4 + length (bytes Entity v) + length (sectionBytes vs)
@@ -115,3 +121,26 @@ section-stored rows text dest after s (v ∷ vs) w h =
     let gives : Gives rows text (sectionLeaves all) = record { whole = w .spells .whole; give = along-also (RowGives rows text) Sized 0 (sectionLeaves all) (w .spells .give) (each-sized all (w .spells .allowed .1)) } in
     s (leaves Entity v) (map (leaves Entity) vs) (kinds-first all) gives (w .texts) (omega (arith, ap length e, w .small)) (omega (arith, ap length e))
     ∙ ap (λ (b : List ℕ). b ++ drop (length b) dest) e
+
+-- The first pass gives the length
+pub first-pass : (rows text : List ℕ) (w r : EntryWriter) (l : Total) → w ≡ newWriter → r ≡ consumeEntities rows text (wholeRows rows) w → l ≡ closing rows r
+    → (l ≡ lengthIn (measuredSection rows text)) × ExactLength section rows text l
+unfolding measuredSection spelledEntities
+first-pass rows text w r l a b e =
+    let q : r ≡ consumeEntities rows text (wholeRows rows) newWriter = b ∙ ap (consumeEntities rows text (wholeRows rows)) a in
+    length-passed section rows text _ (takes-section rows text) (proper-section rows text) _ (reached-section rows text) l (e ∙ ap (closing rows) q)
+
+module _ (rows text dest : List ℕ) (m l : Total) (e : m ≡ lengthIn (measuredSection rows text)) (f : l ≡ writing.fitting m (length dest)) where
+  abbrev Encoded : (after : List ℕ) → Type 0
+  Encoded after =
+      (l ≡ lengthIn (writeSection rows text (length dest))) × ((after ≡ written (writeSection rows text (length dest)) dest) × ExactWriting section rows text dest l after)
+
+  -- No second pass
+  pub refused-whole : (n p : ℕ) → l ≡ uncounted n p → Encoded dest
+  unfolding writeSection measuredSection spelledEntities
+  refused-whole = refusal-passed section rows text _ (takes-section rows text) (proper-section rows text) dest m l e f
+
+  -- The second pass
+  pub second-pass : (n : ℕ) → l ≡ counted n → (after : List ℕ) → StoresEntries rows text dest after → Encoded after
+  unfolding writeSection measuredSection spelledEntities
+  second-pass n q after s = bytes-passed section rows text _ (takes-section rows text) (proper-section rows text) dest m l e f n q after (section-stored rows text dest after s)

@@ -3,12 +3,13 @@ use Prim.Native.Nat.{ℕ, zero, suc, _+_, _≤_, _<_}
 use native.Mathlib.Omega.{arith}
 use mathlib.Core.Bool.{Bool, true, false, cond}
 use mathlib.Core.List.{[], _∷_, _++_}
-use mathlib.Core.Logic.{_≢_}
+use mathlib.Core.Logic.{_≢_, _⊎_, ⊎-elim}
 use mathlib.Core.Path.{_≡_, refl}
 use lib.Dec.{eqb}
 use borrow.Author.Tests.{ne-eqb, eqb-true, eqb-false}
 use Rattle.layout.specs.Layout.{Fault, fine, wrong, nothing}
 use Rattle.layout.specs.Forms.{Tags, _⇒_, known, follows}
+use Rattle.layout.specs.Entities.{entityKinds}
 
 -- n is not in the table
 abbrev pub Outside : Tags → ℕ → Type 0
@@ -45,3 +46,23 @@ of-two {G = G} a n h l f g = go (eqb n a) refl
     go : (x : Bool) → eqb n a ≡ x → G
     go true e = f (eqb-true n a e)
     go false e = g (omega (arith, eqb-false n a e))
+
+-- The kind of an entity in a match in which ord and hash share an arm and each other kind has its own: none of the first five
+abbrev pub NoneOfFive : ℕ → Type 0
+NoneOfFive n = ((((Unit {0} × (n ≢ 1)) × (n ≢ 2)) × (n ≢ 3)) × (n ≢ 4)) × (n ≢ 5)
+
+-- What reaches the shared arm
+pub ord-low : (n : ℕ) → NoneOfFive n → 1 ≤ n → 6 ≤ n
+ord-low n h k = omega arith
+
+-- What no arm takes
+pub no-kind : (n : ℕ) → (NoneOfFive n × (n ≢ 8)) × (n ≢ 9) → (n < 1) ⊎ (8 ≤ n) → Outside entityKinds n
+no-kind n r h =
+    let (((((((u, a), b), c), d), e), x), y) = r in
+    (a, (b, (c, (d, (e, (six, (seven, (x, (y, tt)))))))))
+  where
+    six : n ≢ 6
+    six = λ e. ⊎-elim (λ k. omega arith) (λ k. omega arith) h
+
+    seven : n ≢ 7
+    seven = λ e. ⊎-elim (λ k. omega arith) (λ k. omega arith) h

@@ -1,22 +1,11 @@
 -- Each known kind, and the rest.
-use Prim.Native.Nat.{ℕ, _+_, _≤_, _<_}
-use native.Mathlib.Omega.{arith}
-use mathlib.Core.Logic.{_≢_, ⊎-elim}
+use mathlib.Core.Logic.{⊎-map}
 use mathlib.Core.Path.{_∙_, refl}
 use Rattle.layout.specs.Entities.{Entity, entityKinds}
 use Rattle.layout.proofs.Forms.{kinds-in, kinds-wrong}
-use Rattle.layout.proofs.Tables.{of-two}
+use Rattle.layout.proofs.Tables.{of-two, ord-low, no-kind}
 use Rattle.entity.proofs.read_entity.Statement.{statement}
 use Rattle.entity.proofs.read_entity.Tie as tie
-
-past : (a n : ℕ) → a ≤ n → n ≢ a → a + 1 ≤ n
-past a n h k = omega arith
-
-below : (n : ℕ) → n < 1 → (n ≢ 6) × (n ≢ 7)
-below n h = (omega arith, omega arith)
-
-above : (n : ℕ) → 8 ≤ n → (n ≢ 6) × (n ≢ 7)
-above n h = (omega arith, omega arith)
 
 read-kind-requires : tie.Need-read-kind-requires
 read-kind-requires c κs = tt
@@ -135,11 +124,10 @@ unfolding Entity
 returns-8 c =
     let if1 = c .before .before .before .before .before .if1 in
     let v = c .before .before .before .before .before .before .before .before .before .read-kind .result .value in
-    let r = c .before .before .before .before .before .before .match .rest in
+    let match = c .before .before .before .before .before .before .match in
     let e = c .before .before .before .before .before .before .before .before .before .read-kind .ensures in
     let q = c .before .before .read-ord-or-hash .ensures in
-    let low = past 5 v (past 4 v (past 3 v (past 2 v (past 1 v (if1 .left) (r .0 .0 .0 .0 .0 .0 .1)) (r .0 .0 .0 .0 .0 .1)) (r .0 .0 .0 .0 .1)) (r .0 .0 .0 .1)) (r .0 .0 .1) in
-    of-two 6 v low (c .before .before .before .before .if2 .taken) (λ h. kinds-in entityKinds 6 _ _ _ _ e h refl q) (λ h. kinds-in entityKinds 7 _ _ _ _ e h refl q)
+    of-two 6 v (ord-low v (match .rest .0 .0) (if1 .left)) (c .before .before .before .before .if2 .taken) (λ h. kinds-in entityKinds 6 _ _ _ _ e h refl q) (λ h. kinds-in entityKinds 7 _ _ _ _ e h refl q)
 
 same-length-9 : tie.Need-same-length-9
 same-length-9 c =
@@ -151,9 +139,8 @@ unfolding Entity
 returns-9 c =
     let read-kind = c .before .before .before .before .before .read-kind in
     let v = read-kind .result .value in
-    let r = c .before .before .match .rest in
-    let (six, seven) = ⊎-elim (λ w. below v (w .taken)) (λ w. above v (w .1 .left)) (c .before .if1 .came) in
-    kinds-wrong entityKinds _ _ _ _ (read-kind .ensures) (r .0 .0 .0 .0 .0 .0 .1, (r .0 .0 .0 .0 .0 .1, (r .0 .0 .0 .0 .1, (r .0 .0 .0 .1, (r .0 .0 .1, (six, (seven, (r .0 .1, (r .1, tt))))))))) (rw (c .refused .ensures))
+    let none = no-kind v (c .before .before .match .rest) (⊎-map (λ w. w .taken) (λ w. w .1 .left) (c .before .if1 .came)) in
+    kinds-wrong entityKinds _ _ _ _ (read-kind .ensures) none (rw (c .refused .ensures))
 
 pub read-entity-spec : {M : Type 1} → statement M
 read-entity-spec =

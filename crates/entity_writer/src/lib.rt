@@ -10,7 +10,7 @@ ghost use Rattle.layout.specs.Private.{NameFileLine, TypePaths, CustomSqlText, 
 ghost use Rattle.layout.specs.Private.{TypeFunctions, AggregateName, AggregateTypes, AggregateFunctions, MovingAggregate, AggregateOptions};
 ghost use Rattle.length.specs.Length.{lengthOf};
 ghost use Rattle.entry_writer.specs.Writing.{measured, write, lengthIn, written};
-ghost use Rattle.entry_writer.specs.Refusals.{ExactLength, ExactWriting};
+ghost use Rattle.entry_writer.specs.Refusals.{alone, ExactLength, ExactWriting};
 ghost use Rattle.entry_writer.specs.Run.{consume};
 
 pub fn finalize_modify(w: EntryWriter, rows: &[u32], text: &[u8]) -> EntryWriter
@@ -288,7 +288,7 @@ pub fn trigger(w: EntryWriter, rows: &[u32], text: &[u8]) -> EntryWriter
 // Measures an entity, as a payload, from its rows: its length in bytes, or a refusal of 14 to 16.
 pub fn entity_len(rows: &[u32], text: &[u8]) -> Length
     ensures { λ r. ⌜ lengthOf r ≡ lengthIn (measured Entity (now (rows .entry)) (now (text .entry))) ⌝ }
-    ensures { λ r. ⌜ ExactLength Entity (now (rows .entry)) (now (text .entry)) (lengthOf r) ⌝ }
+    ensures { λ r. ⌜ ExactLength (alone Entity) (now (rows .entry)) (now (text .entry)) (lengthOf r) ⌝ }
 {
     let w = entity(EntryWriter::new(), rows, text);
     w.finish(rows)
@@ -299,7 +299,7 @@ pub fn entity_len(rows: &[u32], text: &[u8]) -> Length
 pub fn encode_entity(rows: &[u32], text: &[u8], dest: &mut [u8]) -> Length
     ensures { λ r. ⌜ lengthOf r ≡ lengthIn (write Entity (now (rows .entry)) (now (text .entry)) (length (now (dest .entry)))) ⌝ }
     ensures { λ r. ⌜ now (dest .exit) ≡ written (write Entity (now (rows .entry)) (now (text .entry)) (length (now (dest .entry)))) (now (dest .entry)) ⌝ }
-    ensures { λ r. ⌜ ExactWriting Entity (now (rows .entry)) (now (text .entry)) (now (dest .entry)) (lengthOf r) (now (dest .exit)) ⌝ }
+    ensures { λ r. ⌜ ExactWriting (alone Entity) (now (rows .entry)) (now (text .entry)) (now (dest .entry)) (lengthOf r) (now (dest .exit)) ⌝ }
 {
     let length = entry_writer::fitting(entity_len(rows, text), dest.len());
     let Length::Counted { count: _ } = length else {

@@ -1,56 +1,74 @@
+-- The entities so far are taken; the others are still to come.
+use native.Mathlib.Omega.{arith}
+use mathlib.Core.Path.{_≡_, refl, sym, ap, _∙_}
+use denote.Ref.{now}
+use borrow.Author.Needs.{needs}
+use Rattle.layout.specs.Entities.{Entity}
+use Rattle.layout.specs.Answers.{wholeRows}
+use Rattle.entry_writer.specs.Run.{consume}
+use Rattle.section_writer.specs.Private.{consumeEntities}
+use Rattle.section_writer.proofs.Loop.{entities-refused, entities-last, entities-more, entities-none}
 use Rattle.section_writer.proofs.entities.Statement.{statement}
 use Rattle.section_writer.proofs.entities.Tie as tie
-use Rattle.section_writer.proofs.entities.Reads as reads
-use Rattle.section_writer.proofs.entities.Lts as lts
-use Rattle.entity_writer.proofs.entity.Reads as entity-reads
-use Rattle.entry_writer.proofs.EntryWriter.entry_length.Reads as entry-length-reads
-use Rattle.entry_writer.proofs.EntryWriter.refused.Reads as refused-reads
 
 abbrev Inv-loop : tie.InvT-loop
-Inv-loop rows text w₀ left₀ w left = ?
+Inv-loop rows text w₀ left₀ w left = consumeEntities rows text (wholeRows rows) w₀ ≡ consumeEntities rows text left w
 
 abbrev μ-loop : tie.MeasureT-loop
-μ-loop rows text w₀ left₀ w left = ?
+μ-loop rows text w₀ left₀ w left = left
 
--- src/lib.rt:45:5
 loop-holds : tie.Need-loop-holds Inv-loop μ-loop
-loop-holds c = ?
+loop-holds c = refl
 
--- src/lib.rt:46:35
 entry-length-requires : tie.Need-entry-length-requires Inv-loop μ-loop
-entry-length-requires c κs = ?
+entry-length-requires c κs = tt
 
--- src/lib.rt:46:9
 entity-requires : tie.Need-entity-requires Inv-loop μ-loop
-entity-requires c κs = ?
+entity-requires c κs = tt
 
--- src/lib.rt:48:13
 returns : tie.Need-returns Inv-loop μ-loop
-returns c = ?
+returns c =
+    let a = c .before .before .before .before .before .before .before .before .args in
+    let x = c .before .before .before .before .before .loop in
+    let length = c .before .before .before .entry-length in
+    let entity = c .before .before .entity in
+    let e = entity .ensures ∙ ap (consume Entity (now (a .rows)) (now (a .text))) (length .ensures) in
+    entities-refused (now (a .rows)) (now (a .text)) (x .left) (x .w) (c .before .before .before .before .loop-test .taken) (entity .result) e (c .if1 .taken) ∙ sym (x .inv)
 
--- src/lib.rt:51:13
 returns-2 : tie.Need-returns-2 Inv-loop μ-loop
-returns-2 c = ?
+returns-2 c =
+    let a = c .before .before .before .before .before .before .before .before .before .before .args in
+    let x = c .before .before .before .before .before .before .before .loop in
+    let test = c .before .before .before .before .before .before .loop-test in
+    let length = c .before .before .before .before .before .entry-length in
+    let entity = c .before .before .before .before .entity in
+    let e = entity .ensures ∙ ap (consume Entity (now (a .rows)) (now (a .text))) (length .ensures) in
+    entities-last (now (a .rows)) (now (a .text)) (x .left) (x .w) (test .taken) (entity .result) e (c .before .before .if1 .left) (c .if2 .taken) ∙ sym (x .inv)
 
--- src/lib.rt:53:9
 sub-left : tie.Need-sub-left Inv-loop μ-loop
-sub-left c = ?
+sub-left c = let test = c .before .before .before .before .before .before .loop-test in omega (arith, test .taken)
 
--- src/lib.rt:45:5
 loop-less : tie.Need-loop-less Inv-loop μ-loop
-loop-less c = ?
+loop-less c = let test = c .before .before .before .before .before .before .loop-test in omega (arith, test .taken)
 
--- src/lib.rt:45:5
 loop-again : tie.Need-loop-again Inv-loop μ-loop
-loop-again c = ?
+loop-again c =
+    let a = c .before .before .before .before .before .before .before .before .before .before .args in
+    let x = c .before .before .before .before .before .before .before .loop in
+    let test = c .before .before .before .before .before .before .loop-test in
+    let length = c .before .before .before .before .before .entry-length in
+    let entity = c .before .before .before .before .entity in
+    let e = entity .ensures ∙ ap (consume Entity (now (a .rows)) (now (a .text))) (length .ensures) in
+    x .inv ∙ entities-more (now (a .rows)) (now (a .text)) (x .left) (x .w) (test .taken) (entity .result) e (c .before .before .if1 .left) (omega (arith, c .if2 .left))
 
--- src/lib.rt:55:5
 refused-requires : tie.Need-refused-requires Inv-loop μ-loop
-refused-requires c κs = ?
+refused-requires c κs = tt
 
--- src/lib.rt:40:1
 returns-3 : tie.Need-returns-3 Inv-loop μ-loop
-returns-3 c = ?
+returns-3 c =
+    let a = c .before .before .before .before .before .args in
+    let x = c .before .before .loop in
+    c .refused .ensures ∙ entities-none (now (a .rows)) (now (a .text)) (x .left) (x .w) (omega (arith, c .before .loop-test .left)) ∙ sym (x .inv)
 
 pub entities-spec : {M : Type 1} → statement M
 entities-spec =

@@ -30,7 +30,7 @@ unfolding drive Operator
 returns c =
     let option-str = c .before .before .before .before .before .before .option-str in
     let option-str2 = c .before .before .before .before .before .option-str2 in
-    cc (option-str .ensures, option-str2 .ensures, c .before .before .before .before .option-str3 .ensures, c .before .before .before .option-str4 .ensures, c .before .before .option-str5 .ensures, c .before .bool .ensures, c .bool2 .ensures)
+    rw (c .bool2 .ensures, c .before .bool .ensures, c .before .before .option-str5 .ensures, c .before .before .before .option-str4 .ensures, c .before .before .before .before .option-str3 .ensures, option-str2 .ensures, option-str .ensures)
 
 pub operator-spec : {M : Type 1} → statement M
 operator-spec =

@@ -12,7 +12,7 @@ option-str-requires c κs = tt
 
 returns : tie.Need-returns
 unfolding drive ToSqlConfig
-returns c = cc
+returns c = rw (c .option-str .ensures, c .before .bool .ensures)
 
 pub to-sql-config-spec : {M : Type 1} → statement M
 to-sql-config-spec = tie.close (tie.spec bool-requires option-str-requires returns)

@@ -12,7 +12,7 @@ declared-sql-requires c κs = tt
 
 returns : tie.Need-returns
 unfolding drive DeclaredType
-returns c = cc
+returns c = rw (c .declared-sql .ensures, c .before .str .ensures)
 
 pub declared-type-spec : {M : Type 1} → statement M
 declared-type-spec = tie.close (tie.spec str-requires declared-sql-requires returns)

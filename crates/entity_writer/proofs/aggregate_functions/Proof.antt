@@ -30,7 +30,7 @@ unfolding drive AggregateFunctions
 returns c =
     let str = c .before .before .before .before .before .before .str in
     let option-str = c .before .before .before .before .before .option-str in
-    cc (str .ensures, option-str .ensures, c .before .before .before .before .option-finalize-modify .ensures, c .before .before .before .option-str2 .ensures, c .before .before .option-str3 .ensures, c .before .option-str4 .ensures, c .option-str5 .ensures)
+    rw (c .option-str5 .ensures, c .before .option-str4 .ensures, c .before .before .option-str3 .ensures, c .before .before .before .option-str2 .ensures, c .before .before .before .before .option-finalize-modify .ensures, option-str .ensures, str .ensures)
 
 pub aggregate-functions-spec : {M : Type 1} → statement M
 aggregate-functions-spec =

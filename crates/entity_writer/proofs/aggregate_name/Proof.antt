@@ -24,7 +24,9 @@ bool-requires c κs = tt
 
 returns : tie.Need-returns
 unfolding drive AggregateName
-returns c = cc
+returns c =
+    let str = c .before .before .before .before .before .str in
+    rw (c .bool .ensures, c .before .str4 .ensures, c .before .before .u32 .ensures, c .before .before .before .str3 .ensures, c .before .before .before .before .str2 .ensures, str .ensures)
 
 pub aggregate-name-spec : {M : Type 1} → statement M
 aggregate-name-spec =

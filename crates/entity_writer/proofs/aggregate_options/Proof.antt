@@ -15,7 +15,7 @@ bool-requires c κs = tt
 
 returns : tie.Need-returns
 unfolding drive AggregateOptions
-returns c = cc
+returns c = rw (c .bool .ensures, c .before .option-parallel-option .ensures, c .before .before .option-str .ensures)
 
 pub aggregate-options-spec : {M : Type 1} → statement M
 aggregate-options-spec =

@@ -15,7 +15,7 @@ aggregate-type-requires c κs = tt
 
 returns : tie.Need-returns
 unfolding drive AggregateTypes
-returns c = cc
+returns c = rw (c .aggregate-type .ensures, c .before .option-aggregate-type-list .ensures, c .before .before .aggregate-type-list .ensures)
 
 pub aggregate-types-spec : {M : Type 1} → statement M
 aggregate-types-spec =

@@ -22,7 +22,7 @@ sql-declared-list-requires c κs = tt
 
 returns : tie.Need-returns
 unfolding drive CustomSql CustomSqlText
-returns c = cc
+returns c = rw (c .sql-declared-list .ensures, c .before .positioning-ref-list .ensures, c .before .before .bool2 .ensures, c .before .before .before .bool .ensures, c .before .before .before .before .custom-sql-text .ensures)
 
 pub custom-sql-spec : {M : Type 1} → statement M
 custom-sql-spec =

@@ -24,7 +24,9 @@ str-requires-5 c κs = tt
 
 returns : tie.Need-returns
 unfolding drive CustomSqlText
-returns c = cc
+returns c =
+    let str = c .before .before .before .before .before .str in
+    rw (c .str5 .ensures, c .before .u32 .ensures, c .before .before .str4 .ensures, c .before .before .before .str3 .ensures, c .before .before .before .before .str2 .ensures, str .ensures)
 
 pub custom-sql-text-spec : {M : Type 1} → statement M
 custom-sql-text-spec =

@@ -19,7 +19,7 @@ to-sql-config-requires c κs = tt
 
 returns : tie.Need-returns
 unfolding drive Function FunctionSignature FunctionOrigin FunctionOptions
-returns c = cc
+returns c = rw (c .to-sql-config .ensures, c .before .function-options .ensures, c .before .before .function-origin .ensures, c .before .before .before .function-signature .ensures)
 
 pub function-spec : {M : Type 1} → statement M
 function-spec =

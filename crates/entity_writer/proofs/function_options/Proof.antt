@@ -18,7 +18,7 @@ option-cast-requires c κs = tt
 
 returns : tie.Need-returns
 unfolding drive FunctionOptions
-returns c = cc
+returns c = rw (c .option-cast .ensures, c .before .option-operator .ensures, c .before .before .search-path .ensures, c .before .before .before .extern-arg-list .ensures)
 
 pub function-options-spec : {M : Type 1} → statement M
 function-options-spec =

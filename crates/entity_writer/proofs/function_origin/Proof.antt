@@ -15,7 +15,7 @@ u32-requires c κs = tt
 
 returns : tie.Need-returns
 unfolding drive FunctionOrigin
-returns c = cc
+returns c = rw (c .u32 .ensures, c .before .str .ensures, c .before .before .option-str .ensures)
 
 pub function-origin-spec : {M : Type 1} → statement M
 function-origin-spec = tie.close (tie.spec option-str-requires str-requires u32-requires returns)

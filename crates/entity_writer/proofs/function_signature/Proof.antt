@@ -24,7 +24,9 @@ pg-extern-return-requires c κs = tt
 
 returns : tie.Need-returns
 unfolding drive FunctionSignature
-returns c = cc
+returns c =
+    let str = c .before .before .before .before .before .str in
+    rw (c .pg-extern-return .ensures, c .before .pg-extern-argument-list .ensures, c .before .before .str4 .ensures, c .before .before .before .str3 .ensures, c .before .before .before .before .str2 .ensures, str .ensures)
 
 pub function-signature-spec : {M : Type 1} → statement M
 function-signature-spec =

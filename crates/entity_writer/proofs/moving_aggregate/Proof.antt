@@ -24,7 +24,9 @@ option-str-requires-4 c κs = tt
 
 returns : tie.Need-returns
 unfolding drive MovingAggregate
-returns c = cc
+returns c =
+    let option-str = c .before .before .before .before .before .option-str in
+    rw (c .option-str4 .ensures, c .before .option-finalize-modify .ensures, c .before .before .option-str3 .ensures, c .before .before .before .option-used-type .ensures, c .before .before .before .before .option-str2 .ensures, option-str .ensures)
 
 pub moving-aggregate-spec : {M : Type 1} → statement M
 moving-aggregate-spec =

@@ -15,7 +15,7 @@ u32-requires c κs = tt
 
 returns : tie.Need-returns
 unfolding drive NameFileLine
-returns c = cc
+returns c = rw (c .u32 .ensures, c .before .str2 .ensures, c .before .before .str .ensures)
 
 pub name-file-line-spec : {M : Type 1} → statement M
 name-file-line-spec = tie.close (tie.spec str-requires str-requires-2 u32-requires returns)

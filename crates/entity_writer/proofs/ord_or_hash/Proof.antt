@@ -22,7 +22,7 @@ to-sql-config-requires c κs = tt
 
 returns : tie.Need-returns
 unfolding drive OrdOrHash NameFileLine
-returns c = cc
+returns c = rw (c .to-sql-config .ensures, c .before .str3 .ensures, c .before .before .str2 .ensures, c .before .before .before .str .ensures, c .before .before .before .before .name-file-line .ensures)
 
 pub ord-or-hash-spec : {M : Type 1} → statement M
 ord-or-hash-spec =

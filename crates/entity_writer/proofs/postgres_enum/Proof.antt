@@ -19,7 +19,7 @@ to-sql-config-requires c κs = tt
 
 returns : tie.Need-returns
 unfolding drive PostgresEnum NameFileLine TypePaths
-returns c = cc
+returns c = rw (c .to-sql-config .ensures, c .before .str-list .ensures, c .before .before .type-paths .ensures, c .before .before .before .name-file-line .ensures)
 
 pub postgres-enum-spec : {M : Type 1} → statement M
 postgres-enum-spec =

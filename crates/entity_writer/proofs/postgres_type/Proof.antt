@@ -22,7 +22,7 @@ option-u32-requires c κs = tt
 
 returns : tie.Need-returns
 unfolding drive PostgresType NameFileLine TypePaths TypeFunctions
-returns c = cc
+returns c = rw (c .option-u32 .ensures, c .before .to-sql-config .ensures, c .before .before .type-functions .ensures, c .before .before .before .type-paths .ensures, c .before .before .before .before .name-file-line .ensures)
 
 pub postgres-type-spec : {M : Type 1} → statement M
 postgres-type-spec =

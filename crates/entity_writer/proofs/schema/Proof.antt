@@ -18,7 +18,7 @@ u32-requires c κs = tt
 
 returns : tie.Need-returns
 unfolding drive Schema
-returns c = cc
+returns c = rw (c .u32 .ensures, c .before .str3 .ensures, c .before .before .str2 .ensures, c .before .before .before .str .ensures)
 
 pub schema-spec : {M : Type 1} → statement M
 schema-spec = tie.close (tie.spec str-requires str-requires-2 str-requires-3 u32-requires returns)

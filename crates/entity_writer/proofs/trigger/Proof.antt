@@ -19,7 +19,7 @@ to-sql-config-requires c κs = tt
 
 returns : tie.Need-returns
 unfolding drive Trigger NameFileLine
-returns c = cc
+returns c = rw (c .to-sql-config .ensures, c .before .str2 .ensures, c .before .before .str .ensures, c .before .before .before .name-file-line .ensures)
 
 pub trigger-spec : {M : Type 1} → statement M
 trigger-spec =

@@ -18,7 +18,7 @@ option-str-requires-2 c κs = tt
 
 returns : tie.Need-returns
 unfolding drive TypeFunctions
-returns c = cc
+returns c = rw (c .option-str2 .ensures, c .before .option-str .ensures, c .before .before .str2 .ensures, c .before .before .before .str .ensures)
 
 pub type-functions-spec : {M : Type 1} → statement M
 type-functions-spec =

@@ -15,7 +15,7 @@ str-requires-3 c κs = tt
 
 returns : tie.Need-returns
 unfolding drive TypePaths
-returns c = cc
+returns c = rw (c .str3 .ensures, c .before .str2 .ensures, c .before .before .str .ensures)
 
 pub type-paths-spec : {M : Type 1} → statement M
 type-paths-spec = tie.close (tie.spec str-requires str-requires-2 str-requires-3 returns)

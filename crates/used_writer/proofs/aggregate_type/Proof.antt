@@ -12,7 +12,7 @@ used-type-requires c κs = tt
 
 returns : tie.Need-returns
 unfolding drive AggregateType
-returns c = cc
+returns c = rw (c .used-type .ensures, c .before .option-str .ensures)
 
 pub aggregate-type-spec : {M : Type 1} → statement M
 aggregate-type-spec = tie.close (tie.spec option-str-requires used-type-requires returns)

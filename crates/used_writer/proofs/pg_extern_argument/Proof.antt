@@ -12,7 +12,7 @@ used-type-requires c κs = tt
 
 returns : tie.Need-returns
 unfolding drive PgExternArgument
-returns c = cc
+returns c = rw (c .used-type .ensures, c .before .str .ensures)
 
 pub pg-extern-argument-spec : {M : Type 1} → statement M
 pg-extern-argument-spec = tie.close (tie.spec str-requires used-type-requires returns)

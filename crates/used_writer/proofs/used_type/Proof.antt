@@ -30,7 +30,7 @@ unfolding drive UsedType
 returns c =
     let str = c .before .before .before .before .before .before .str in
     let str2 = c .before .before .before .before .before .str2 in
-    cc (str .ensures, str2 .ensures, c .before .before .before .before .option-str .ensures, c .before .before .before .bool .ensures, c .before .before .option-str2 .ensures, c .before .bool2 .ensures, c .function-metadata-type .ensures)
+    rw (c .function-metadata-type .ensures, c .before .bool2 .ensures, c .before .before .option-str2 .ensures, c .before .before .before .bool .ensures, c .before .before .before .before .option-str .ensures, str2 .ensures, str .ensures)
 
 pub used-type-spec : {M : Type 1} → statement M
 used-type-spec =

@@ -308,7 +308,7 @@ fn head_len(rows: &[u32], i: usize) -> usize
     ensures { λ r. ⌜ r ≡ headLength (now (rows .entry)) i ⌝ }
 {
     if begins_entry(rows, i) {
-        return 4;
+        return 4; // another entry
     }
     0
 }
@@ -320,11 +320,11 @@ fn end_entry(rows: &[u32], dest: &mut [u8], i: usize, begin: usize, at: usize) -
     ensures { λ r. ⌜ r ≡ cond (beginsEntry (now (rows .entry)) i) at begin ⌝ }
     ensures { λ r. ⌜ now (dest .exit) ≡ cond (beginsEntry (now (rows .entry)) i) (lengthStored begin at (now (dest .entry))) (now (dest .entry)) ⌝ }
 {
-    if !begins_entry(rows, i) {
-        return begin;
+    if begins_entry(rows, i) {
+        put_length(dest, begin, at);
+        return at;
     }
-    put_length(dest, begin, at);
-    at
+    begin
 }
 
 // Stores the length of the payload of an entry that begins and ends at given places.

@@ -5,8 +5,5 @@ pub mod Spelled
 pub mod Exact
 pub mod Offsets
 pub mod Measured
-pub mod Row
-pub mod Stored
-pub mod Entries
 pub mod RoundTrips
 pub mod Passes

@@ -2,12 +2,12 @@
 use Prim.Native.Nat.{ℕ, suc, _+_, _*_, _<_}
 use native.Mathlib.Nat.{add-zero}
 use native.Mathlib.Omega.{arith}
-use mathlib.Core.Bool.{Bool, true, false, cond, not, _&&_, _||_, or-true, or-false, and-eq-true-iff}
+use mathlib.Core.Bool.{Bool, true, false, cond, _&&_, and-true, and-false, and-eq-true-iff}
 use mathlib.Core.List.{List, [], _∷_}
 use mathlib.Core.Path.{_≡_, refl, sym, ap, subst, _∙_}
 use lib.Dec.{eqb, ltb, leb}
 use lib.ListN.{length, length-append}
-use borrow.Author.Tests.{eqb-true, eqb-false, eq-eqb, ne-eqb, leb-false, lt-leb}
+use borrow.Author.Tests.{eqb-true, eqb-false, eq-eqb, ne-eqb}
 use Rattle.layout.specs.Layout.{Sort, Leaf, plain, string, Layout, Value, leaves, Meets, bound}
 use Rattle.layout.specs.Written.{textSort, leafBytes, bytesOf, bytes, rowWidth, sortNumber, sortAt, valueAt}
 use Rattle.layout.specs.Reading.{Outcome, ok, refuse, _>>=_, need, walk, leavesAt, utf8}
@@ -19,8 +19,10 @@ use Rattle.entry_writer.specs.Rows.{isRow, plainIn, lentAt, textIn, inRo
 use Rattle.entry_writer.specs.Writing.{fourteen, wholly, spelled, measuredAs, measured, lengthIn}
 use Rattle.entry_writer.specs.Refusals.{RowGives, Sized}
 use Rattle.entry_writer.specs.State.{newWriter, stoppedWriter, stoppedOnce, past, lengthTaken, arrivePlain, pastText, arriveText, consumePlain, consumeText}
+use Rattle.entry_writer.specs.Private.{stopped}
 use Rattle.entry_writer.specs.declared.EntryWriter.{EntryWriter}
 use Rattle.entry_writer.specs.Run.{writer, consume, closing}
+use Rattle.entry_writer.proofs.Steps.{stopped-add}
 use Rattle.entry_writer.proofs.Still.{goes-on, writer-still, run-refused}
 use Rattle.entry_writer.proofs.Spelled.{plain-not-text, Given, Begins, whole-rows, walk-sound}
 
@@ -112,21 +114,6 @@ module _ (rows text : List ℕ) where
       go (ok v end) e h f = (v, rw (e, moved-of f .1), all-ok h refl .1 .gives)
       go (refuse n p) e h f = let k : _≡_ {A = ℕ} 14 0 = sym (stops-of f) ∙ z in absurd (omega arith)
 
-not-and : (a b : Bool) → not (a && b) ≡ (not a || not b)
-not-and true b = refl
-not-and false b = refl
-
--- A length that stops just above the limit
-abbrev cap : ℕ → ℕ
-cap n = cond (leb n limit) n (limit + 1)
-
-cap-add : (a n : ℕ) → cap (cap a + n) ≡ cap (a + n)
-cap-add a n = go (leb a limit) refl
-  where
-    go : (b : Bool) → leb a limit ≡ b → cap (cond b a (limit + 1) + n) ≡ cap (a + n)
-    go true e = refl
-    go false e = let h : limit < a = leb-false a limit e in rw (lt-leb (limit + 1 + n) limit (omega arith), lt-leb (a + n) limit (omega arith))
-
 module _ (rows text : List ℕ) where
   row-after : (x : Leaf) (w : EntryWriter) → push rows text x w .row ≡ w .row + 1
   row-after (plain srt n) w = refl
@@ -141,24 +128,24 @@ module _ (rows text : List ℕ) where
   found-good t w g = rw (eq-eqb (sortAt rows (w .row)) textSort (g .0), g .1)
 
   -- A bad text is remembered
-  bad-after : (x : Leaf) (w : EntryWriter) → RowGives rows text (w .row) x → push rows text x w .bad ≡ (w .bad || not (goodAt rows text (w .row)))
-  bad-after (plain srt n) w g = rw (plain-good srt (w .row) (g .0)) (sym (or-false (w .bad)))
-  bad-after (string t) w g = go (passes rows text t w) ∙ ap (λ (b : Bool). w .bad || not b) (found-good t w g)
+  bad-after : (x : Leaf) (w : EntryWriter) → RowGives rows text (w .row) x → eqb (push rows text x w .bad) 0 ≡ (eqb (w .bad) 0 && goodAt rows text (w .row))
+  bad-after (plain srt n) w g = rw (plain-good srt (w .row) (g .0)) (sym (and-true (eqb (w .bad) 0)))
+  bad-after (string t) w g = go (passes rows text t w) ∙ ap (λ (b : Bool). eqb (w .bad) 0 && b) (found-good t w g)
     where
-      go : (b : Bool) → pastText b t w .bad ≡ (w .bad || not b)
-      go true = sym (or-false (w .bad))
-      go false = sym (or-true (w .bad))
+      go : (b : Bool) → eqb (pastText b t w .bad) 0 ≡ (eqb (w .bad) 0 && b)
+      go true = sym (and-true (eqb (w .bad) 0))
+      go false = sym (and-false (eqb (w .bad) 0))
 
   -- The length grows by the leaf's bytes
-  pos-after : (x : Leaf) (w : EntryWriter) → RowGives rows text (w .row) x → goodAt rows text (w .row) ≡ true → push rows text x w .pos ≡ cap (w .pos + length (leafBytes x))
+  pos-after : (x : Leaf) (w : EntryWriter) → RowGives rows text (w .row) x → goodAt rows text (w .row) ≡ true → push rows text x w .pos ≡ stopped (w .pos + length (leafBytes x))
   pos-after (plain srt n) w g h = refl
   pos-after (string t) w g h = ap (λ (b : Bool). pastText b t w .pos) (found-good t w g ∙ h)
 
   -- A writer after rows that take n bytes, if they are good
   pub record Stands (w : EntryWriter) (n : ℕ) : Type 0 where
     pub going : w .refusal ≡ 0
-    pub bad : w .bad ≡ not (goodRows rows text (w .row))
-    pub pos : goodRows rows text (w .row) ≡ true → w .pos ≡ cap n
+    pub texts : eqb (w .bad) 0 ≡ goodRows rows text (w .row)
+    pub pos : goodRows rows text (w .row) ≡ true → w .pos ≡ stopped n
 
   push-stands : (x : Leaf) (w : EntryWriter) (n : ℕ) → Stands w n → RowGives rows text (w .row) x → Stands (push rows text x w) (n + length (leafBytes x))
   push-stands x w n s g =
@@ -166,8 +153,8 @@ module _ (rows text : List ℕ) where
       let r : push rows text x w .row ≡ suc i = row-after x w ∙ omega arith in
       record {
         going = push-refusal rows text x w ∙ s .going;
-        bad = rw r (bad-after x w g ∙ ap (λ (b : Bool). b || not (goodAt rows text i)) (s .bad) ∙ sym (not-and (goodRows rows text i) (goodAt rows text i)));
-        pos = λ h. let (a, b) = and-eq-true-iff (goodRows rows text i) (goodAt rows text i) .0 (rw r at h) in pos-after x w g b ∙ rw (s .pos a) (cap-add n (length (leafBytes x)));
+        texts = rw r (bad-after x w g ∙ ap (λ (b : Bool). b && goodAt rows text i) (s .texts));
+        pos = λ h. let (a, b) = and-eq-true-iff (goodRows rows text i) (goodAt rows text i) .0 (rw r at h) in pos-after x w g b ∙ rw (s .pos a) (stopped-add n (length (leafBytes x)));
       }
 
   stands-all : (ls : List Leaf) (w : EntryWriter) (n : ℕ) → Stands w n → Given rows text (w .row) ls → Stands (pushAll (push rows text) ls w) (n + length (bytesOf ls))
@@ -179,10 +166,10 @@ module _ (rows text : List ℕ) where
 
   -- And after the length of an entry
   pub stands-length : (w : EntryWriter) (n : ℕ) → Stands w n → Stands (lengthTaken w) (n + 4)
-  stands-length w n s = record { going = s .going; bad = s .bad; pos = λ h. rw (s .pos h) (cap-add n 4) }
+  stands-length w n s = record { going = s .going; texts = s .texts; pos = λ h. rw (s .pos h) (stopped-add n 4) }
 
   pub stands-new : Stands newWriter 0
-  stands-new = record { going = refl; bad = refl; pos = λ h. refl }
+  stands-new = record { going = refl; texts = refl; pos = λ h. refl }
 
   -- A writer after what was taken from the rows, of so many bytes
   pub data Reached {A : Type 0} (size : A → ℕ) (w : EntryWriter) : Outcome ℕ A → Type 0 where
@@ -215,21 +202,21 @@ closed bytes rows text w taken (halts e) = rw e
 closed {A} bytes rows text w taken (arrives {v} {end} (s, r)) = rw (s .going, r) (whole (eqb (rowWidth * end) (length rows)) refl)
   where
     fit : (a : Bool) → leb (length (bytes v)) limit ≡ a
-        → cond (leb (cap (length (bytes v))) limit) (counted (cap (length (bytes v)))) (uncounted 16 0) ≡ lengthIn (need a 16 0 (ok (bytes v) (length (bytes v))))
+        → cond (leb (stopped (length (bytes v))) limit) (counted (stopped (length (bytes v)))) (uncounted 16 0) ≡ lengthIn (need a 16 0 (ok (bytes v) (length (bytes v))))
     fit true e = rw (e, e)
     fit false e = rw e
 
     good : (a : Bool) → goodRows rows text (w .row) ≡ a
-        → cond (not a) (uncounted 15 0) (cond (leb (w .pos) limit) (counted (w .pos)) (uncounted 16 0))
+        → cond a (cond (leb (w .pos) limit) (counted (w .pos)) (uncounted 16 0)) (uncounted 15 0)
         ≡ lengthIn (need a 15 0 (need (leb (length (bytes v)) limit) 16 0 (ok (bytes v) (length (bytes v)))))
     good true e = rw (s .pos e) (fit (leb (length (bytes v)) limit) refl)
     good false e = refl
 
     whole : (a : Bool) → eqb (rowWidth * end) (length rows) ≡ a
-        → cond a (cond (w .bad) (uncounted 15 0) (cond (leb (w .pos) limit) (counted (w .pos)) (uncounted 16 0))) (uncounted 14 0)
+        → cond a (cond (eqb (w .bad) 0) (cond (leb (w .pos) limit) (counted (w .pos)) (uncounted 16 0)) (uncounted 15 0)) (uncounted 14 0)
         ≡ lengthIn (fourteen (need a 14 0 (ok v end)) >>= λ x e.
         need (goodRows rows text (wholeRows rows)) 15 0 (need (leb (length (bytes x)) limit) 16 0 (ok (bytes x) (length (bytes x)))))
     whole true e =
         let n : wholeRows rows ≡ w .row = whole-rows rows end (sym (eqb-true _ _ e)) ∙ sym r in
-        rw (n, s .bad) (good (goodRows rows text (w .row)) refl)
+        rw (n, s .texts) (good (goodRows rows text (w .row)) refl)
     whole false e = refl

@@ -6,7 +6,7 @@ use mathlib.Core.List.{List, _++_}
 use mathlib.Core.Path.{_≡_, refl, sym, ap, subst, _∙_}
 use lib.Dec.{leb}
 use lib.ListN.{length, drop}
-use Rattle.layout.specs.Layout.{Layout, leaves}
+use Rattle.layout.specs.Layout.{Layout}
 use Rattle.layout.specs.Reading.{Outcome, ok, refuse, _>>=_, need}
 use Rattle.table.specs.Answers.{Total, counted, uncounted}
 use Rattle.entry_writer.specs.declared.EntryWriter.{EntryWriter}
@@ -14,11 +14,9 @@ use Rattle.entry_writer.specs.Writing.{spelled, within, measured, write,
 use Rattle.entry_writer.specs.State.{newWriter}
 use Rattle.entry_writer.specs.Run.{consume, closing}
 use Rattle.entry_writer.specs.Refusals.{Form, alone, Writable, ExactLength, ExactWriting}
-use Rattle.entry_writer.specs.Storing.{Stores}
 use Rattle.entry_writer.proofs.Spelled.{Takes, takes-alone}
 use Rattle.entry_writer.proofs.Exact.{measuredBy, writtenBy, writes-only, length-exact, writing-exact, proper-alone}
 use Rattle.entry_writer.proofs.Measured.{Reached, closed, consumed-alone}
-use Rattle.entry_writer.proofs.Stored.{spells-gives}
 
 -- After the length, only 17 is left
 within-length : (m : Outcome ℕ (List ℕ)) (size : ℕ) → fitting (lengthIn m) size ≡ lengthIn (within size m)
@@ -86,7 +84,7 @@ first-pass L rows text w r l a b e =
     length-passed (alone L) rows text _ (takes-alone L rows text) (proper-alone L rows text) (consume L rows text newWriter) (consumed-alone rows text L) l (e ∙ ap (closing rows) q)
 
 module _ (L : Layout) (rows text dest : List ℕ) (m l : Total) (e : m ≡ lengthIn (measured L rows text)) (f : l ≡ fitting m (length dest)) where
-  abbrev Encoded : (after : List ℕ) → Type 0
+  abbrev pub Encoded : (after : List ℕ) → Type 0
   Encoded after =
       (l ≡ lengthIn (write L rows text (length dest))) × ((after ≡ written (write L rows text (length dest)) dest) × ExactWriting (alone L) rows text dest l after)
 
@@ -94,10 +92,3 @@ module _ (L : Layout) (rows text dest : List ℕ) (m l : Total) (e : m ≡ lengt
   pub refused-whole : (n p : ℕ) → l ≡ uncounted n p → Encoded dest
   unfolding write measured spelled
   refused-whole = refusal-passed (alone L) rows text _ (takes-alone L rows text) (proper-alone L rows text) dest m l e f
-
-  -- The second pass
-  pub second-pass : (n : ℕ) → l ≡ counted n → (after : List ℕ) → Stores rows text dest after → Encoded after
-  unfolding write measured spelled
-  second-pass n q after s =
-      bytes-passed (alone L) rows text _ (takes-alone L rows text) (proper-alone L rows text) dest m l e f n q after
-      (λ v w h. s (leaves L v) (spells-gives L rows text v (w .spells)) (w .texts) h)

@@ -1,28 +1,54 @@
 -- The result of taking a row, from the tests on it.
 use Prim.Native.Nat.{ℕ, _+_, _-_, _≤_, _<_}
 use native.Mathlib.Omega.{arith}
-use mathlib.Core.Bool.{Bool, true, false, not}
+use mathlib.Core.Bool.{Bool, true, false, not, cond}
 use mathlib.Core.List.{List}
 use mathlib.Core.Path.{_≡_, refl, sym, ap, _∙_}
 use lib.Dec.{leb}
 use lib.ListN.{length, take, drop, length-append, length-drop}
 use lib.Seq.{length-take-le}
-use borrow.Author.Tests.{not-true, not-false, lt-ltb, le-ltb}
+use borrow.Author.Tests.{not-true, not-false, lt-ltb, le-ltb, le-leb, lt-leb, leb-true, leb-false}
 use Rattle.layout.specs.Layout.{Sort, Kind, Tag, Flag, Number, Count, string}
 use Rattle.layout.specs.Written.{textSort, four, plainBytes, leafBytes, offsetAt, valueAt}
 use Rattle.layout.specs.Reading.{Outcome, ok, refuse, utf8}
-use Rattle.layout.specs.Answers.{wholeRows}
+use Rattle.layout.specs.Answers.{limit, wholeRows}
 use Rattle.table.specs.declared.Row.{Row}
 use Rattle.table.specs.Table.{rowOf}
 use Rattle.table.proofs.Rows.{offset-there, value-there}
 use Rattle.entry_writer.specs.declared.EntryWriter.{EntryWriter}
 use Rattle.entry_writer.specs.Rows.{isRow, textIn, staysAt}
 use Rattle.entry_writer.specs.State.{stoppedWriter, spoiled, past, arrivePlain, pastText, arriveText, unlessRefused}
-use Rattle.entry_writer.specs.Private.{numberFrom, takeNumber}
+use Rattle.entry_writer.specs.Private.{numberFrom, takeNumber, stopped}
 use Rattle.entry_writer.proofs.Still.{unless-refused, goes-on}
 use Rattle.entry_writer.proofs.Spelled.{is-row}
-use Rattle.entry_writer.proofs.Row.{stays-within}
 use Rattle.text.specs.Walk as automaton
+
+-- The bytes left after a start
+pub left-of : (start n l : ℕ) → start ≤ l → leb n (l - start) ≡ leb (start + n) l
+left-of start n l h = go (leb n (l - start)) refl
+  where
+    go : (b : Bool) → leb n (l - start) ≡ b → b ≡ leb (start + n) l
+    go true e = let k = leb-true n (l - start) e in sym (le-leb (start + n) l (omega arith))
+    go false e = let k = leb-false n (l - start) e in sym (lt-leb (start + n) l (omega arith))
+
+-- A text within the lent bytes ends within them
+pub stays-within : (s : Bool) (end l : ℕ) → s ≡ leb end l → not s ≡ false → end ≤ l
+stays-within s end l e h = leb-true end l (sym e ∙ not-false s h)
+
+-- A length that stops just above the limit
+pub stopped-most : (n : ℕ) → stopped n ≤ limit + 1
+stopped-most n = go (leb n limit) refl
+  where
+    go : (b : Bool) → leb n limit ≡ b → cond b n (limit + 1) ≤ limit + 1
+    go true e = let h = leb-true n limit e in omega arith
+    go false e = omega arith
+
+pub stopped-add : (a n : ℕ) → stopped (stopped a + n) ≡ stopped (a + n)
+stopped-add a n = go (leb a limit) refl
+  where
+    go : (b : Bool) → leb a limit ≡ b → stopped (cond b a (limit + 1) + n) ≡ stopped (a + n)
+    go true e = refl
+    go false e = let h : limit < a = leb-false a limit e in rw (lt-leb (limit + 1 + n) limit (omega arith), lt-leb (a + n) limit (omega arith))
 
 -- A number that is taken is a leaf of its sort
 pub take-sort : (srt : Sort) (o : Outcome ℕ ℕ) (w : EntryWriter) → takeNumber (length (plainBytes srt 0)) o w ≡ arrivePlain srt o w

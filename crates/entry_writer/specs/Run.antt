@@ -32,6 +32,6 @@ consume L rows text w = drive (writer rows text) L w
 unfoldable pub closing : (rows : List ℕ) → EntryWriter → Total
 closing rows w =
     cond (eqb (w .refusal) 0 && eqb (rowWidth * w .row) (length rows))
-    (cond (w .bad) (uncounted 15 0)
-    (cond (leb (w .pos) limit) (counted (w .pos)) (uncounted 16 0)))
+    (cond (eqb (w .bad) 0) (cond (leb (w .pos) limit) (counted (w .pos)) (uncounted 16 0))
+    (uncounted 15 0))
     (uncounted 14 0)

@@ -13,7 +13,7 @@ use Rattle.entry_writer.specs.declared.EntryWriter.{EntryWriter}
 
 -- The writer at the start of a writing
 abbrev pub newWriter : EntryWriter
-newWriter = record { row = 0; pos = 0; value = 0; refusal = 0; bad = false }
+newWriter = record { row = 0; pos = 0; value = 0; refusal = 0; bad = 0 }
 
 -- The writer, refused
 abbrev pub stoppedWriter : EntryWriter → EntryWriter
@@ -33,7 +33,7 @@ past n size w = record { row = w .row + 1; pos = grown (w .pos) size; value = n;
 
 -- The writer after a bad text
 abbrev pub spoiled : EntryWriter → EntryWriter
-spoiled w = record { row = w .row + 1; pos = w .pos; value = w .value; refusal = w .refusal; bad = true }
+spoiled w = record { row = w .row + 1; pos = w .pos; value = w .value; refusal = w .refusal; bad = 1 }
 
 -- The writer after the length of an entry, which no row gives
 abbrev pub lengthTaken : EntryWriter → EntryWriter

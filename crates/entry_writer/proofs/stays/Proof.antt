@@ -6,7 +6,7 @@ use lib.ListN.{length}
 use borrow.Author.Tests.{lt-leb}
 use borrow.Author.Needs.{needs}
 use denote.Ref.{now}
-use Rattle.entry_writer.proofs.Row.{left-of}
+use Rattle.entry_writer.proofs.Steps.{left-of}
 use Rattle.entry_writer.proofs.stays.Statement.{statement}
 use Rattle.entry_writer.proofs.stays.Tie as tie
 

@@ -41,9 +41,9 @@ refuse-requires-4 c κs = search needs
 returns-4 : tie.Need-returns-4
 unfolding closing
 returns-4 c =
-    let args = c .before .before .before .before .before .before .before .before .args in
-    let if1 = c .before .before .before .before .before .if1 in
-    rw (eq-eqb _ _ (if1 .left), eq-eqb (rowWidth * args .self .row) (length (now (args .rows))) (omega arith), c .before .if4 .taken) (c .refuse4 .ensures)
+    let args = c .before .before .before .before .before .before .before .before .before .args in
+    let if1 = c .before .before .before .before .before .before .if1 in
+    rw (eq-eqb _ _ (if1 .left), eq-eqb (rowWidth * args .self .row) (length (now (args .rows))) (omega arith), ne-eqb _ _ (c .before .if4 .taken)) (c .refuse4 .ensures)
 
 refuse-requires-5 : tie.Need-refuse-requires-5
 refuse-requires-5 c κs = search needs
@@ -51,16 +51,16 @@ refuse-requires-5 c κs = search needs
 returns-5 : tie.Need-returns-5
 unfolding closing
 returns-5 c =
-    let args = c .before .before .before .before .before .before .before .before .before .before .args in
-    let if1 = c .before .before .before .before .before .before .before .if1 in
-    rw (eq-eqb _ _ (if1 .left), eq-eqb (rowWidth * args .self .row) (length (now (args .rows))) (omega arith), c .before .before .before .if4 .left, lt-leb _ _ (c .before .if5 .taken)) (c .refuse5 .ensures)
+    let args = c .before .before .before .before .before .before .before .before .before .before .before .args in
+    let if1 = c .before .before .before .before .before .before .before .before .if1 in
+    rw (eq-eqb _ _ (if1 .left), eq-eqb (rowWidth * args .self .row) (length (now (args .rows))) (omega arith), eq-eqb _ _ (c .before .before .before .if4 .left), lt-leb _ _ (c .before .if5 .taken)) (c .refuse5 .ensures)
 
 returns-6 : tie.Need-returns-6
 unfolding closing
 returns-6 c =
-    let args = c .before .before .before .before .before .before .before .before .before .args in
-    let if1 = c .before .before .before .before .before .before .if1 in
-    rw (eq-eqb _ _ (if1 .left), eq-eqb (rowWidth * args .self .row) (length (now (args .rows))) (omega arith), c .before .before .if4 .left, le-leb _ _ (c .if5 .left))
+    let args = c .before .before .before .before .before .before .before .before .before .before .args in
+    let if1 = c .before .before .before .before .before .before .before .if1 in
+    rw (eq-eqb _ _ (if1 .left), eq-eqb (rowWidth * args .self .row) (length (now (args .rows))) (omega arith), eq-eqb _ _ (c .before .before .if4 .left), le-leb _ _ (c .if5 .left))
 
 pub finish-spec : {M : Type 1} → statement M
 finish-spec =

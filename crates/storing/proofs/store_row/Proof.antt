@@ -1,12 +1,13 @@
 -- By the sort; a text within the lent bytes is stored after its length.
-use Rattle.entry_writer.proofs.Row.{length-one, one-stored, four-stored, text-left, text-stored, stays-within}
+use Rattle.entry_writer.proofs.Steps.{stays-within}
+use Rattle.storing.proofs.Row.{length-one, one-stored, four-stored, text-left, text-stored}
 use Rattle.table.proofs.Rows.{sort-there, offset-there, value-there}
 use denote.Ref.{now}
 use lib.ListN.{length}
 use native.Mathlib.Omega.{arith}
 use borrow.Author.Needs.{needs}
-use Rattle.entry_writer.proofs.store_row.Statement.{statement}
-use Rattle.entry_writer.proofs.store_row.Tie as tie
+use Rattle.storing.proofs.store_row.Statement.{statement}
+use Rattle.storing.proofs.store_row.Tie as tie
 
 row-at-requires : tie.Need-row-at-requires
 row-at-requires c κs = search needs

@@ -1,4 +1,4 @@
--- What a row takes and stores, by its sort; and row after row.
+-- What a row takes and stores, by its sort.
 use Prim.Native.Nat.{ℕ, suc, _+_, _-_, _%_, _≤_, _<_}
 use native.Mathlib.Omega.{arith}
 use mathlib.Core.Bool.{Bool, not, true, false, cond}
@@ -11,7 +11,8 @@ use borrow.Author.Tests.{not-true, not-false, le-leb, lt-leb, leb-true, leb-fals
 use Rattle.layout.specs.Written.{four, sortAt, offsetAt, valueAt}
 use Rattle.paste.specs.Pasted.{pasted}
 use Rattle.paste.proofs.Pasted.{set-pasted, pasted-append}
-use Rattle.entry_writer.specs.Private.{bySort, textInside, rowLength, rowBytes, storedFrom, beginsEntry, headLength, lengthStored, entriesFrom}
+use Rattle.storing.specs.Private.{bySort, textInside, rowLength, rowBytes}
+use Rattle.entry_writer.proofs.Steps.{stays-within}
 
 module _ (rows : List ℕ) (i sort : ℕ) (e : sort ≡ sortAt rows i) where
   -- The case of a sort
@@ -58,18 +59,6 @@ module _ (rows : List ℕ) (i sort : ℕ) (e : sort ≡ sortAt rows i) where
       pub four-stored : 3 < sort → sort ≤ 5 → (after : List ℕ) → after ≡ pasted dest at (four n) → after ≡ pasted dest at (rowBytes rows text i)
       four-stored h k after e = e ∙ ap (pasted dest at) (ap four v ∙ sym (bytes-four h k))
 
--- The bytes left after a start
-pub left-of : (start n l : ℕ) → start ≤ l → leb n (l - start) ≡ leb (start + n) l
-left-of start n l h = go (leb n (l - start)) refl
-  where
-    go : (b : Bool) → leb n (l - start) ≡ b → b ≡ leb (start + n) l
-    go true e = let k = leb-true n (l - start) e in sym (le-leb (start + n) l (omega arith))
-    go false e = let k = leb-false n (l - start) e in sym (lt-leb (start + n) l (omega arith))
-
--- A text within the lent bytes ends within them
-pub stays-within : (s : Bool) (end l : ℕ) → s ≡ leb end l → not s ≡ false → end ≤ l
-stays-within s end l e h = leb-true end l (sym e ∙ not-false s h)
-
 -- The text of a row, by the test whether it is within the lent bytes
 module _ (rows text : List ℕ) (i start n : ℕ) (p : start ≡ offsetAt rows i) (q : n ≡ valueAt rows i) (s : Bool) (b : s ≡ leb (start + n) (length text)) where
   module _ (sort : ℕ) (e : sort ≡ sortAt rows i) (h : 5 < sort) (dest : List ℕ) (at : ℕ) (mid : List ℕ) (m : mid ≡ pasted dest at (four n)) where
@@ -91,47 +80,3 @@ module _ (rows text : List ℕ) (i start n : ℕ) (p : start ≡ offsetAt rows i
         f
         ∙ rw (w, m) (pasted-append dest at (four n) x (omega (arith, length-text rows i sort e h)))
         ∙ ap (pasted dest at) (ap (λ (y : ℕ). four y ++ x) q ∙ sym (bytes-text rows i sort e text h ∙ ap (λ (y : List ℕ). four (valueAt rows i) ++ y) t))
-
--- The rows from i on, of n: the next one fits, or does not fit, or there is none
-module _ (rows text : List ℕ) (n i at : ℕ) (dest : List ℕ) where
-  module _ (h : i < n) (size : ℕ) (s : size ≡ rowLength rows i) where
-    next : n - i ≡ suc (n - (i + 1))
-    next = omega arith
-
-    pub stored-step : at + size ≤ length dest → (after : List ℕ) → after ≡ pasted dest at (rowBytes rows text i)
-        → storedFrom rows text (n - i) i at dest ≡ storedFrom rows text (n - (i + 1)) (i + 1) (at + size) after
-    unfolding storedFrom
-    stored-step k after e = rw (next, ← s, le-leb (at + size) (length dest) k, e)
-
-    pub stored-stop : length dest < at + size → storedFrom rows text (n - i) i at dest ≡ dest
-    unfolding storedFrom
-    stored-stop k = rw (next, ← s, lt-leb (at + size) (length dest) k)
-
-  pub stored-done : n ≤ i → storedFrom rows text (n - i) i at dest ≡ dest
-  unfolding storedFrom
-  stored-done h = let e : n - i ≡ 0 = omega arith in rw e
-
--- The length of an entry comes before what is stored after it
-pub begin-below : (o : Bool) (begin at b head size : ℕ) → begin + 4 ≤ at → b ≡ cond o at begin → head ≡ cond o 4 0 → b + 4 ≤ at + (head + size)
-begin-below true begin at b head size h e f = omega arith
-begin-below false begin at b head size h e f = omega arith
-
--- The rows from i on as entries, of n: the next one fits, or does not fit, or there is none
-module _ (rows text : List ℕ) (n i begin at : ℕ) (dest : List ℕ) where
-  module _ (h : i < n) (head : ℕ) (p : head ≡ headLength rows i) (size : ℕ) (s : size ≡ rowLength rows i) where
-    entry-next : n - i ≡ suc (n - (i + 1))
-    entry-next = omega arith
-
-    pub entries-step : at + (head + size) ≤ length dest → (b : ℕ) → b ≡ cond (beginsEntry rows i) at begin → (mid : List ℕ) → mid ≡ cond (beginsEntry rows i) (lengthStored begin at dest) dest
-        → (after : List ℕ) → after ≡ pasted mid (at + head) (rowBytes rows text i)
-        → entriesFrom rows text (n - i) i begin at dest ≡ entriesFrom rows text (n - (i + 1)) (i + 1) b (at + (head + size)) after
-    unfolding entriesFrom
-    entries-step k b x mid y after z = rw (entry-next, ← p, ← s, le-leb (at + (head + size)) (length dest) k, z, y, x)
-
-    pub entries-stop : length dest < at + (head + size) → entriesFrom rows text (n - i) i begin at dest ≡ dest
-    unfolding entriesFrom
-    entries-stop k = rw (entry-next, ← p, ← s, lt-leb (at + (head + size)) (length dest) k)
-
-  pub entries-done : n ≤ i → entriesFrom rows text (n - i) i begin at dest ≡ lengthStored begin at dest
-  unfolding entriesFrom
-  entries-done h = let e : n - i ≡ 0 = omega arith in rw e

@@ -1,11 +1,11 @@
 -- By the sort.
-use Rattle.entry_writer.proofs.Row.{length-one, length-four, length-text}
+use Rattle.storing.proofs.Row.{length-one, length-four, length-text}
 use Rattle.table.proofs.Rows.{sort-there, value-there}
 use denote.Ref.{now}
 use mathlib.Core.Path.{sym}
 use borrow.Author.Needs.{needs}
-use Rattle.entry_writer.proofs.row_len.Statement.{statement}
-use Rattle.entry_writer.proofs.row_len.Tie as tie
+use Rattle.storing.proofs.row_len.Statement.{statement}
+use Rattle.storing.proofs.row_len.Tie as tie
 
 row-at-requires : tie.Need-row-at-requires
 row-at-requires c κs = search needs

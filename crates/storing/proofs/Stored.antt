@@ -9,20 +9,20 @@ use lib.Dec.{leb}
 use lib.ListN.{length, drop, length-append, length-drop}
 use lib.Seq.{take-append-seam, drop-append-add, drop-drop, length-take-le}
 use borrow.Author.Tests.{le-leb, leb-true, eq-eqb}
-use Rattle.layout.specs.Layout.{Kind, Tag, Flag, Number, Count, Leaf, plain, string, Layout, Value, leaves}
+use Rattle.layout.specs.Layout.{Kind, Tag, Flag, Number, Count, Leaf, plain, string}
 use Rattle.layout.specs.Written.{textSort, four, leafBytes, bytesOf, sortAt, offsetAt, valueAt}
 use Rattle.layout.specs.Reading.{utf8}
 use Rattle.layout.specs.Answers.{wholeRows}
-use Rattle.layout.proofs.Each.{Each, each-of}
+use Rattle.layout.proofs.Each.{Each}
 use Rattle.paste.specs.Pasted.{pasted}
 use Rattle.paste.proofs.Pasted.{pasted-fits}
 use Rattle.entry_writer.specs.Rows.{lentAt, staysAt, goodAt}
-use Rattle.entry_writer.specs.Private.{rowLength, rowBytes, storedFrom, stored}
-use Rattle.entry_writer.specs.Refusals.{RowGives, Sized, alone, Spells}
-use Rattle.entry_writer.specs.Storing.{Gives, Stores}
+use Rattle.storing.specs.Private.{rowLength, rowBytes, Spot, spot, storedRow, storedRows}
+use Rattle.entry_writer.specs.Refusals.{RowGives, Sized}
+use Rattle.storing.specs.Storing.{Gives, Stores}
 use Rattle.entry_writer.proofs.Along.{along-each, along-map, along-also}
 use Rattle.entry_writer.proofs.Spelled.{There, Given, given-there, good-sound, all-good}
-use Rattle.entry_writer.proofs.Row.{length-one, length-four, length-text, bytes-one, bytes-four, bytes-text}
+use Rattle.storing.proofs.Row.{length-one, length-four, length-text, bytes-one, bytes-four, bytes-text}
 
 pub pasted-after : (a r b : List ℕ) → length b ≤ length r → pasted (a ++ r) (length a) b ≡ (a ++ b) ++ drop (length b) r
 pasted-after a r b h = pasted-fits (a ++ r) (length a) b (omega (arith, length-append a r)) ∙ rw (take-append-seam a r, drop-append-add a r (length b))
@@ -62,10 +62,11 @@ module _ (rows text : List ℕ) where
         has = bytes-text rows i textSort (sym (g .0)) text (omega arith) ∙ rw (a, g .1, n);
       }
 
-  stored-leaves : (ls : List Leaf) (i : ℕ) (a r : List ℕ) → Each Sized ls → Given rows text i ls → GoodFrom i ls → length (bytesOf ls) ≤ length r
-      → storedFrom rows text (length ls) i (length a) (a ++ r) ≡ (a ++ bytesOf ls) ++ drop (length (bytesOf ls)) r
-  unfolding storedFrom
-  stored-leaves [] i a r s g h k = ap (λ (x : List ℕ). x ++ r) (sym (append-nil a))
+  -- Leaves are stored one after the other
+  pub stored-leaves : (ls : List Leaf) (i : ℕ) (a r : List ℕ) → Each Sized ls → Given rows text i ls → GoodFrom i ls → length (bytesOf ls) ≤ length r
+      → storedRows rows text (length ls) i (spot (length a) (a ++ r)) ≡ spot (length (a ++ bytesOf ls)) ((a ++ bytesOf ls) ++ drop (length (bytesOf ls)) r)
+  unfolding storedRows storedRow
+  stored-leaves [] i a r s g h k = ap (λ (x : List ℕ). spot (length x) (x ++ r)) (sym (append-nil a))
   stored-leaves (x ∷ ls) i a r s g h k =
       let b = leafBytes x in
       let w = row-has i x (s .0) (g .0 .1) (h i (omega arith) (omega arith)) in
@@ -77,14 +78,10 @@ module _ (rows text : List ℕ) where
       ∙ rw (append-assoc a b (bytesOf ls), drop-drop, ← q))
 
 -- Storing meets its contract
-pub stores : (rows text dest : List ℕ) → Stores rows text dest (stored rows text dest)
-stores rows text dest ls g good fits =
+pub stores : (rows text dest after : List ℕ) → after ≡ storedRows rows text (wholeRows rows) 0 (spot 0 dest) .dest → Stores rows text dest after
+stores rows text dest after e ls g good fits =
     let w : wholeRows rows ≡ length ls = omega (arith, g .whole) in
     let t = along-map (λ i x. RowGives rows text i x × Sized x) (There rows text) 0 ls (λ k x a b h. (omega arith, h .0)) (g .give) in
     let k = good-sound rows text (wholeRows rows) (all-good rows text good) in
-    ap (λ (k : ℕ). storedFrom rows text k 0 0 dest) w
-    ∙ stored-leaves rows text ls 0 [] dest (along-each (λ i x. RowGives rows text i x × Sized x) Sized (λ i x h. h .1) 0 ls (g .give)) t (λ i p z. k i (given-there rows text 0 ls t i p z)) fits
-
--- Rows that spell a value give its leaves
-pub spells-gives : (L : Layout) (rows text : List ℕ) (v : Value L) → Spells (alone L) rows text v → Gives rows text (leaves L v)
-spells-gives L rows text v s = record { whole = s .whole; give = along-also (RowGives rows text) Sized 0 (leaves L v) (s .give) (each-of Sized L v (s .allowed)) }
+    let q = stored-leaves rows text ls 0 [] dest (along-each (λ i x. RowGives rows text i x × Sized x) Sized (λ i x h. h .1) 0 ls (g .give)) t (λ i p z. k i (given-there rows text 0 ls t i p z)) fits in
+    e ∙ ap (λ (n : ℕ). storedRows rows text n 0 (spot 0 dest) .dest) w ∙ ap (λ (p : Spot). p .dest) q

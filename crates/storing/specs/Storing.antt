@@ -1,4 +1,4 @@
--- The contracts of storing rows, once nothing is refused, whatever the layout.
+-- The contracts of storing rows, once nothing is refused.
 use Prim.Native.Nat.{ℕ, _*_, _≤_}
 use mathlib.Core.List.{List, [], _∷_, _++_}
 use mathlib.Core.Path.{_≡_}

@@ -1,0 +1,3 @@
+pub mod Row
+pub mod Stored
+pub mod Passes

@@ -1,0 +1,83 @@
+-- Definitions for the contracts of private functions; no public contract cites them.
+use Prim.Native.Nat.{ℕ, zero, suc, _+_, _-_, _%_}
+use mathlib.Core.Bool.{Bool, cond}
+use mathlib.Core.List.{List, [], _∷_, _++_}
+use lib.Dec.{eqb, leb}
+use lib.ListN.{length}
+use Rattle.layout.specs.Layout.{Kind}
+use Rattle.layout.specs.Written.{four, sortNumber, sortAt, valueAt}
+use Rattle.layout.specs.Answers.{wholeRows}
+use Rattle.paste.specs.Pasted.{pasted}
+use Rattle.entry_writer.specs.Rows.{lentAt, staysAt}
+
+-- By the sort of a row, as `store` tests it: up to 3, a kind, a tag or a flag; up to 5, a number or a count; else a text. There
+-- is no sort 0 and none above 6 (docs/FORMAT.md, Rows), and a writing has refused such a row with 14 before
+abbrev pub bySort : {A : Type 0} → (rows : List ℕ) → (row : ℕ) → (byte number text : A) → A
+bySort rows i a b c = cond (leb (sortAt rows i) 3) a (cond (leb (sortAt rows i) 5) b c)
+
+-- The number of bytes that a row takes
+unfoldable pub rowLength : (rows : List ℕ) → (row : ℕ) → ℕ
+rowLength rows i = bySort rows i 1 4 (4 + valueAt rows i)
+
+-- The text of a row, if it is within the lent bytes
+abbrev pub textInside : (rows text : List ℕ) → (row : ℕ) → List ℕ
+textInside rows text i = cond (staysAt rows text i) (lentAt rows text i) []
+
+-- The bytes of a row
+unfoldable pub rowBytes : (rows text : List ℕ) → (row : ℕ) → List ℕ
+rowBytes rows text i = bySort rows i (valueAt rows i % 256 ∷ []) (four (valueAt rows i)) (four (valueAt rows i) ++ textInside rows text i)
+
+-- A destination, and the place in it where storing goes on
+pub record Spot : Type 0 where
+  pub at : ℕ
+  pub dest : List ℕ
+
+abbrev pub spot : (at : ℕ) → List ℕ → Spot
+spot at dest = record { at = at; dest = dest }
+
+-- A row, stored if it fits
+unfoldable pub storedRow : (rows text : List ℕ) → (row : ℕ) → Spot → Spot
+storedRow rows text i p =
+    cond (leb (p .at + rowLength rows i) (length (p .dest)))
+    (record { at = p .at + rowLength rows i; dest = pasted (p .dest) (p .at) (rowBytes rows text i) })
+    p
+
+-- n rows from row i on
+unfoldable pub storedRows : (rows text : List ℕ) → (n row : ℕ) → Spot → Spot
+storedRows rows text zero i p = p
+storedRows rows text (suc n) i p = storedRows rows text n (i + 1) (storedRow rows text i p)
+
+-- A row has the kind of an entity
+abbrev pub isKind : (rows : List ℕ) → (row : ℕ) → Bool
+isKind rows i = eqb (sortAt rows i) (sortNumber Kind)
+
+-- The first row with the kind of an entity among n from row i on, or the row after them
+unfoldable pub nextKind : (rows : List ℕ) → (n row : ℕ) → ℕ
+nextKind rows zero i = i
+nextKind rows (suc n) i = cond (isKind rows i) i (nextKind rows n (i + 1))
+
+-- Where the entity ends that begins with row i
+abbrev pub entityEnd : (rows : List ℕ) → (row : ℕ) → ℕ
+entityEnd rows i = nextKind rows (wholeRows rows - (i + 1)) (i + 1)
+
+-- The payload of an entry: the rows of the entity that begins with row i
+abbrev pub storedPayload : (rows text : List ℕ) → (row : ℕ) → Spot → Spot
+storedPayload rows text i p = storedRows rows text (entityEnd rows i - i) i p
+
+-- The length of a payload is stored before it: the entry begins at a place, and ends at another
+abbrev pub lengthStored : (begin end : ℕ) → List ℕ → List ℕ
+lengthStored begin end dest = pasted dest begin (four ((end - begin - 4) % 4294967296))
+
+-- An entry
+abbrev pub storedEntry : (rows text : List ℕ) → (row : ℕ) → Spot → Spot
+storedEntry rows text i p =
+    let end = storedPayload rows text i (record { at = p .at + 4; dest = p .dest }) in
+    record { at = end .at; dest = lengthStored (p .at) (end .at) (end .dest) }
+
+-- At most n entries from row i on, up to the last row, as long as there is space for their lengths
+unfoldable pub storedEntries : (rows text : List ℕ) → (n row : ℕ) → Spot → Spot
+storedEntries rows text zero i p = p
+storedEntries rows text (suc n) i p =
+    cond (leb (p .at + 4) (length (p .dest)))
+    (cond (leb (wholeRows rows) (entityEnd rows i)) (storedEntry rows text i p) (storedEntries rows text n (entityEnd rows i) (storedEntry rows text i p)))
+    p

@@ -1,3 +1,5 @@
 pub mod Row
+pub mod Rows
 pub mod Stored
+pub mod Entries
 pub mod Passes

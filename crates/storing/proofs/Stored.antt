@@ -22,6 +22,7 @@ use Rattle.entry_writer.specs.Refusals.{RowGives, Sized}
 use Rattle.storing.specs.Storing.{Gives, Stores}
 use Rattle.entry_writer.proofs.Along.{along-each, along-map, along-also}
 use Rattle.entry_writer.proofs.Spelled.{There, Given, given-there, good-sound, all-good}
+use Rattle.storing.proofs.Rows.{row-fits}
 use Rattle.storing.proofs.Row.{length-one, length-four, length-text, bytes-one, bytes-four, bytes-text}
 
 pub pasted-after : (a r b : List ℕ) → length b ≤ length r → pasted (a ++ r) (length a) b ≡ (a ++ b) ++ drop (length b) r
@@ -65,17 +66,19 @@ module _ (rows text : List ℕ) where
   -- Leaves are stored one after the other
   pub stored-leaves : (ls : List Leaf) (i : ℕ) (a r : List ℕ) → Each Sized ls → Given rows text i ls → GoodFrom i ls → length (bytesOf ls) ≤ length r
       → storedRows rows text (length ls) i (spot (length a) (a ++ r)) ≡ spot (length (a ++ bytesOf ls)) ((a ++ bytesOf ls) ++ drop (length (bytesOf ls)) r)
-  unfolding storedRows storedRow
+  unfolding storedRows
   stored-leaves [] i a r s g h k = ap (λ (x : List ℕ). spot (length x) (x ++ r)) (sym (append-nil a))
   stored-leaves (x ∷ ls) i a r s g h k =
       let b = leafBytes x in
       let w = row-has i x (s .0) (g .0 .1) (h i (omega arith) (omega arith)) in
       let q = length-append b (bytesOf ls) in
-      let m : length a + length b ≡ length (a ++ b) = sym (length-append a b) in
-      let f : leb (length a + length b) (length (a ++ r)) ≡ true = le-leb (length a + length b) (length (a ++ r)) (omega (arith, length-append a r)) in
-      rw (w .takes, w .has, f, pasted-after a r b (omega arith), m)
-      (stored-leaves ls (i + 1) (a ++ b) (drop (length b) r) (s .1) (g .1) (good-next i x ls h) (omega (arith, length-drop (length b) r))
-      ∙ rw (append-assoc a b (bytesOf ls), drop-drop, ← q))
+      let f : length a + rowLength rows i ≤ length (a ++ r) = omega (arith, length-append a r, w .takes) in
+      let m : length a + rowLength rows i ≡ length (a ++ b) = omega (arith, length-append a b, w .takes) in
+      let e : storedRow rows text i (spot (length a) (a ++ r)) ≡ spot (length (a ++ b)) ((a ++ b) ++ drop (length b) r) =
+      row-fits rows text i (length a) (a ++ r) f ∙ rw (w .has, m, pasted-after a r b (omega arith)) in
+      ap (storedRows rows text (length ls) (i + 1)) e
+      ∙ stored-leaves ls (i + 1) (a ++ b) (drop (length b) r) (s .1) (g .1) (good-next i x ls h) (omega (arith, length-drop (length b) r))
+      ∙ rw (append-assoc a b (bytesOf ls), drop-drop, ← q)
 
 -- Storing meets its contract
 pub stores : (rows text dest after : List ℕ) → after ≡ storedRows rows text (wholeRows rows) 0 (spot 0 dest) .dest → Stores rows text dest after

@@ -67,17 +67,3 @@ storedPayload rows text i p = storedRows rows text (entityEnd rows i - i) i p
 -- The length of a payload is stored before it: the entry begins at a place, and ends at another
 abbrev pub lengthStored : (begin end : ℕ) → List ℕ → List ℕ
 lengthStored begin end dest = pasted dest begin (four ((end - begin - 4) % 4294967296))
-
--- An entry
-abbrev pub storedEntry : (rows text : List ℕ) → (row : ℕ) → Spot → Spot
-storedEntry rows text i p =
-    let end = storedPayload rows text i (record { at = p .at + 4; dest = p .dest }) in
-    record { at = end .at; dest = lengthStored (p .at) (end .at) (end .dest) }
-
--- At most n entries from row i on, up to the last row, as long as there is space for their lengths
-unfoldable pub storedEntries : (rows text : List ℕ) → (n row : ℕ) → Spot → Spot
-storedEntries rows text zero i p = p
-storedEntries rows text (suc n) i p =
-    cond (leb (p .at + 4) (length (p .dest)))
-    (cond (leb (wholeRows rows) (entityEnd rows i)) (storedEntry rows text i p) (storedEntries rows text n (entityEnd rows i) (storedEntry rows text i p)))
-    p

@@ -50,6 +50,7 @@ struct End {
 fn store_payload(rows: &[u32], text: &[u8], dest: &mut [u8], first: usize, begin: usize) -> End
     requires { ⌜ (first < wholeRows (now rows)) × (begin ≤ length (now dest)) ⌝ }
     ensures { λ r. ⌜ r .row ≡ entityEnd (now (rows .entry)) first ⌝ }
+    ensures { λ r. ⌜ (begin ≤ r .at) × (r .at ≤ length (now (dest .entry))) ⌝ }
     ensures { λ r. ⌜ spot (r .at) (now (dest .exit)) ≡ storedPayload (now (rows .entry)) (now (text .entry)) first (spot begin (now (dest .entry))) ⌝ }
 {
     let mut at = store_next(rows, text, dest, first, begin);

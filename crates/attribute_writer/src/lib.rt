@@ -48,9 +48,9 @@ pub fn extern_arg(w: EntryWriter, rows: &[u32], text: &[u8]) -> EntryWriter
     match tag {
         layout::EXTERN_ARG_CREATE_OR_REPLACE..=layout::EXTERN_ARG_PARALLEL_RESTRICTED => w,
         layout::EXTERN_ARG_SHOULD_PANIC..=layout::EXTERN_ARG_SCHEMA => w.str(rows, text),
-        layout::EXTERN_ARG_SUPPORT => positioning_ref(w, rows, text),
+        layout::EXTERN_ARG_SUPPORT => positioning_ref(w.copy(), rows, text),
         layout::EXTERN_ARG_NAME..=layout::EXTERN_ARG_COST => w.str(rows, text),
-        layout::EXTERN_ARG_REQUIRES => positioning_ref_list(w, rows, text),
+        layout::EXTERN_ARG_REQUIRES => positioning_ref_list(w.copy(), rows, text),
         _ => w.refused(),
     }
 }
@@ -76,7 +76,7 @@ pub fn search_path(w: EntryWriter, rows: &[u32], text: &[u8]) -> EntryWriter
 {
     let w = w.bool(rows, text);
     if w.value != 0 {
-        return str_list(w, rows, text);
+        return str_list(w.copy(), rows, text);
     }
     w
 }

@@ -305,6 +305,6 @@ pub fn encode_entity(rows: &[u32], text: &[u8], dest: &mut [u8]) -> Length
     let Length::Counted { count: _ } = length else {
         return length;
     };
-    entry_writer::store(rows, text, dest);
+    storing::store(rows, text, dest);
     length
 }

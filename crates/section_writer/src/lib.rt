@@ -32,7 +32,7 @@ pub fn encode_entities(rows: &[u32], text: &[u8], dest: &mut [u8]) -> Length
     let Length::Counted { count: _ } = length else {
         return length;
     };
-    entry_writer::store_entries(rows, text, dest);
+    storing::store_entries(rows, text, dest);
     length
 }
 

@@ -1,4 +1,3 @@
-pub mod Row
 pub mod Rows
 pub mod Stored
 pub mod Entries

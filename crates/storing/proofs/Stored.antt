@@ -4,9 +4,9 @@ use native.Mathlib.Nat.{mod-eq-of-lt}
 use native.Mathlib.Omega.{arith}
 use mathlib.Core.Bool.{true, _&&_, and-eq-true-iff}
 use mathlib.Core.List.{List, [], _∷_, _++_, append-assoc, append-nil}
-use mathlib.Core.Path.{_≡_, sym, ap, _∙_}
+use mathlib.Core.Path.{_≡_, refl, sym, ap, _∙_}
 use lib.Dec.{leb}
-use lib.ListN.{length, drop, length-append, length-drop}
+use lib.ListN.{length, take, drop, length-append, length-drop}
 use lib.Seq.{take-append-seam, drop-append-add, drop-drop, length-take-le}
 use borrow.Author.Tests.{le-leb, leb-true, eq-eqb}
 use Rattle.layout.specs.Layout.{Kind, Tag, Flag, Number, Count, Leaf, plain, string}
@@ -17,13 +17,12 @@ use Rattle.layout.proofs.Each.{Each}
 use Rattle.paste.specs.Pasted.{pasted}
 use Rattle.paste.proofs.Pasted.{pasted-fits}
 use Rattle.entry_writer.specs.Rows.{lentAt, staysAt, goodAt}
-use Rattle.storing.specs.Private.{rowLength, rowBytes, Spot, spot, storedRow, storedRows}
+use Rattle.storing.specs.Private.{textBytes, rowBytes, Spot, spot, storedBytes, storedRow, storedRows}
 use Rattle.entry_writer.specs.Refusals.{RowGives, Sized}
 use Rattle.storing.specs.Storing.{Gives, Stores}
 use Rattle.entry_writer.proofs.Along.{along-each, along-map, along-also}
 use Rattle.entry_writer.proofs.Spelled.{There, Given, given-there, good-sound, all-good}
-use Rattle.storing.proofs.Rows.{row-fits}
-use Rattle.storing.proofs.Row.{length-one, length-four, length-text, bytes-one, bytes-four, bytes-text}
+use Rattle.storing.proofs.Rows.{bytes-fit, bytes-one, bytes-four, bytes-text, text-there}
 
 pub pasted-after : (a r b : List ℕ) → length b ≤ length r → pasted (a ++ r) (length a) b ≡ (a ++ b) ++ drop (length b) r
 pasted-after a r b h = pasted-fits (a ++ r) (length a) b (omega (arith, length-append a r)) ∙ rw (take-append-seam a r, drop-append-add a r (length b))
@@ -36,32 +35,22 @@ module _ (rows text : List ℕ) where
   pub good-next : (i : ℕ) (x : Leaf) (ls : List Leaf) → GoodFrom i (x ∷ ls) → GoodFrom (i + 1) ls
   good-next i x ls h k a b = h k (omega arith) (omega arith)
 
-  -- The row of a leaf takes as many bytes as the leaf, and has the same bytes
-  pub record Has (i : ℕ) (x : Leaf) : Type 0 where
-    pub takes : rowLength rows i ≡ length (leafBytes x)
-    pub has : rowBytes rows text i ≡ leafBytes x
-
-  one-has : (i sort n : ℕ) → sort ≡ sortAt rows i → sort ≤ 3 → valueAt rows i ≡ n → n < 256 → (rowLength rows i ≡ 1) × (rowBytes rows text i ≡ n ∷ [])
-  one-has i sort n e h v k = (length-one rows i sort e h, bytes-one rows i sort e text h ∙ rw (v, mod-eq-of-lt k))
-
-  four-has : (i sort n : ℕ) → sort ≡ sortAt rows i → 3 < sort → sort ≤ 5 → valueAt rows i ≡ n → (rowLength rows i ≡ 4) × (rowBytes rows text i ≡ four n)
-  four-has i sort n e h k v = (length-four rows i sort e h k, bytes-four rows i sort e text h k ∙ ap four v)
-
-  pub row-has : (i : ℕ) (x : Leaf) → Sized x → RowGives rows text i x → goodAt rows text i ≡ true → Has i x
-  row-has i (plain Kind n) s g h = let (a, b) = one-has i 1 n (sym (g .0)) (omega arith) (g .1) s in record { takes = a; has = b }
-  row-has i (plain Tag n) s g h = let (a, b) = one-has i 2 n (sym (g .0)) (omega arith) (g .1) s in record { takes = a; has = b }
-  row-has i (plain Flag n) s g h = let (a, b) = one-has i 3 n (sym (g .0)) (omega arith) (g .1) (omega arith) in record { takes = a; has = b }
-  row-has i (plain Number n) s g h = let (a, b) = four-has i 4 n (sym (g .0)) (omega arith) (omega arith) (g .1) in record { takes = a; has = b }
-  row-has i (plain Count n) s g h = let (a, b) = four-has i 5 n (sym (g .0)) (omega arith) (omega arith) (g .1) in record { takes = a; has = b }
+  -- The row of a leaf has the leaf's bytes
+  pub row-has : (i : ℕ) (x : Leaf) → Sized x → RowGives rows text i x → goodAt rows text i ≡ true → rowBytes rows text i ≡ leafBytes x
+  row-has i (plain Kind n) s g h = bytes-one rows text i _ (sym (g .0)) _ (sym (g .1)) (omega arith) ∙ ap (λ (m : ℕ). m ∷ []) (mod-eq-of-lt s)
+  row-has i (plain Tag n) s g h = bytes-one rows text i _ (sym (g .0)) _ (sym (g .1)) (omega arith) ∙ ap (λ (m : ℕ). m ∷ []) (mod-eq-of-lt s)
+  row-has i (plain Flag n) s g h = bytes-one rows text i _ (sym (g .0)) _ (sym (g .1)) (omega arith) ∙ ap (λ (m : ℕ). m ∷ []) (mod-eq-of-lt (below n s))
+    where
+      below : (n : ℕ) → n < 2 → n < 256
+      below n h = omega arith
+  row-has i (plain Number n) s g h = bytes-four rows text i _ (sym (g .0)) _ (sym (g .1)) (omega arith) (omega arith)
+  row-has i (plain Count n) s g h = bytes-four rows text i _ (sym (g .0)) _ (sym (g .1)) (omega arith) (omega arith)
   row-has i (string t) s g h =
       let e : (staysAt rows text i && utf8 (lentAt rows text i)) ≡ true = rw (eq-eqb (sortAt rows i) textSort (g .0)) at h in
-      let a = and-eq-true-iff (staysAt rows text i) (utf8 (lentAt rows text i)) .0 e .0 in
+      let a : staysAt rows text i ≡ true = and-eq-true-iff (staysAt rows text i) (utf8 (lentAt rows text i)) .0 e .0 in
       let k : offsetAt rows i + valueAt rows i ≤ length text = leb-true _ _ a in
       let n : length t ≡ valueAt rows i = ap length (sym (g .1)) ∙ length-take-le (valueAt rows i) (drop (offsetAt rows i) text) (omega (arith, length-drop (offsetAt rows i) text)) in
-      record {
-        takes = length-text rows i textSort (sym (g .0)) (omega arith) ∙ omega (arith, length-append (four (length t)) t);
-        has = bytes-text rows i textSort (sym (g .0)) text (omega arith) ∙ rw (a, g .1, n);
-      }
+      bytes-text rows text i textSort (sym (g .0)) (valueAt rows i) refl (omega arith) (offsetAt rows i) refl ∙ text-there text (offsetAt rows i) (valueAt rows i) a ∙ rw (g .1, n)
 
   -- Leaves are stored one after the other
   pub stored-leaves : (ls : List Leaf) (i : ℕ) (a r : List ℕ) → Each Sized ls → Given rows text i ls → GoodFrom i ls → length (bytesOf ls) ≤ length r
@@ -70,12 +59,12 @@ module _ (rows text : List ℕ) where
   stored-leaves [] i a r s g h k = ap (λ (x : List ℕ). spot (length x) (x ++ r)) (sym (append-nil a))
   stored-leaves (x ∷ ls) i a r s g h k =
       let b = leafBytes x in
-      let w = row-has i x (s .0) (g .0 .1) (h i (omega arith) (omega arith)) in
       let q = length-append b (bytesOf ls) in
-      let f : length a + rowLength rows i ≤ length (a ++ r) = omega (arith, length-append a r, w .takes) in
-      let m : length a + rowLength rows i ≡ length (a ++ b) = omega (arith, length-append a b, w .takes) in
+      let f : length a + length b ≤ length (a ++ r) = omega (arith, length-append a r) in
+      let m : length a + length b ≡ length (a ++ b) = sym (length-append a b) in
       let e : storedRow rows text i (spot (length a) (a ++ r)) ≡ spot (length (a ++ b)) ((a ++ b) ++ drop (length b) r) =
-      row-fits rows text i (length a) (a ++ r) f ∙ rw (w .has, m, pasted-after a r b (omega arith)) in
+      ap (λ (y : List ℕ). storedBytes y (spot (length a) (a ++ r))) (row-has i x (s .0) (g .0 .1) (h i (omega arith) (omega arith)))
+      ∙ bytes-fit b (length a) (a ++ r) f ∙ rw (m, pasted-after a r b (omega arith)) in
       ap (storedRows rows text (length ls) (i + 1)) e
       ∙ stored-leaves ls (i + 1) (a ++ b) (drop (length b) r) (s .1) (g .1) (good-next i x ls h) (omega (arith, length-drop (length b) r))
       ∙ rw (append-assoc a b (bytesOf ls), drop-drop, ← q)

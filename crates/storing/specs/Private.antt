@@ -3,29 +3,23 @@ use Prim.Native.Nat.{ℕ, zero, suc, _+_, _-_, _%_}
 use mathlib.Core.Bool.{Bool, cond}
 use mathlib.Core.List.{List, [], _∷_, _++_}
 use lib.Dec.{eqb, leb}
-use lib.ListN.{length}
+use lib.ListN.{length, take, drop}
 use Rattle.layout.specs.Layout.{Kind}
-use Rattle.layout.specs.Written.{four, sortNumber, sortAt, valueAt}
+use Rattle.layout.specs.Written.{four, sortNumber, sortAt, offsetAt, valueAt}
 use Rattle.layout.specs.Answers.{wholeRows}
 use Rattle.paste.specs.Pasted.{pasted}
-use Rattle.entry_writer.specs.Rows.{lentAt, staysAt}
 
--- By the sort of a row, as `store` tests it: up to 3, a kind, a tag or a flag; up to 5, a number or a count; else a text. There
--- is no sort 0 and none above 6 (docs/FORMAT.md, Rows), and a writing has refused such a row with 14 before
-abbrev pub bySort : {A : Type 0} → (rows : List ℕ) → (row : ℕ) → (byte number text : A) → A
-bySort rows i a b c = cond (leb (sortAt rows i) 3) a (cond (leb (sortAt rows i) 5) b c)
+-- A text from lent bytes, after its length; nothing if it leaves them
+unfoldable pub textBytes : (text : List ℕ) → (start size : ℕ) → List ℕ
+textBytes text start size = cond (leb (start + size) (length text)) (four size ++ take size (drop start text)) []
 
--- The number of bytes that a row takes
-unfoldable pub rowLength : (rows : List ℕ) → (row : ℕ) → ℕ
-rowLength rows i = bySort rows i 1 4 (4 + valueAt rows i)
-
--- The text of a row, if it is within the lent bytes
-abbrev pub textInside : (rows text : List ℕ) → (row : ℕ) → List ℕ
-textInside rows text i = cond (staysAt rows text i) (lentAt rows text i) []
-
--- The bytes of a row
+-- The bytes of a row, by its sort: up to 3, a kind, a tag or a flag; up to 5, a number or a count; else a text. There is no sort
+-- 0 and none above 6 (docs/FORMAT.md, Rows), and a writing has refused such a row with 14 before
 unfoldable pub rowBytes : (rows text : List ℕ) → (row : ℕ) → List ℕ
-rowBytes rows text i = bySort rows i (valueAt rows i % 256 ∷ []) (four (valueAt rows i)) (four (valueAt rows i) ++ textInside rows text i)
+rowBytes rows text i =
+    cond (leb (sortAt rows i) 3) (valueAt rows i % 256 ∷ [])
+    (cond (leb (sortAt rows i) 5) (four (valueAt rows i))
+    (textBytes text (offsetAt rows i) (valueAt rows i)))
 
 -- A destination, and the place in it where storing goes on
 pub record Spot : Type 0 where
@@ -35,12 +29,13 @@ pub record Spot : Type 0 where
 abbrev pub spot : (at : ℕ) → List ℕ → Spot
 spot at dest = record { at = at; dest = dest }
 
--- A row, stored if it fits
-unfoldable pub storedRow : (rows text : List ℕ) → (row : ℕ) → Spot → Spot
-storedRow rows text i p =
-    cond (leb (p .at + rowLength rows i) (length (p .dest)))
-    (record { at = p .at + rowLength rows i; dest = pasted (p .dest) (p .at) (rowBytes rows text i) })
-    p
+-- Bytes, stored if they fit
+unfoldable pub storedBytes : List ℕ → Spot → Spot
+storedBytes b p = cond (leb (p .at + length b) (length (p .dest))) (spot (p .at + length b) (pasted (p .dest) (p .at) b)) p
+
+-- A row
+abbrev pub storedRow : (rows text : List ℕ) → (row : ℕ) → Spot → Spot
+storedRow rows text i p = storedBytes (rowBytes rows text i) p
 
 -- n rows from row i on
 unfoldable pub storedRows : (rows text : List ℕ) → (n row : ℕ) → Spot → Spot

@@ -1,12 +1,14 @@
 // The second pass over the rows of a writing, once nothing is refused: their bytes are stored, row after row, or as entries.
 use layout::ROW_WIDTH;
+use table::Row;
 ghost use mathlib.Core.Path.{_≡_};
-ghost use Prim.Native.Nat.{_+_, _<_, _≤_};
+ghost use mathlib.Core.List.{[], _∷_};
+ghost use Prim.Native.Nat.{_+_, _%_, _<_, _≤_};
 ghost use lib.ListN.{length};
+ghost use Rattle.layout.specs.Written.{four};
 ghost use Rattle.layout.specs.Answers.{wholeRows};
-ghost use Rattle.paste.specs.Pasted.{pasted};
 ghost use Rattle.storing.specs.Storing.{Stores, StoresEntries};
-ghost use Rattle.storing.specs.Private.{spot, rowLength, rowBytes, storedRow, entityEnd, storedPayload, lengthStored};
+ghost use Rattle.storing.specs.Private.{spot, textBytes, storedBytes, storedRow, entityEnd, storedPayload, lengthStored};
 
 // Stores the bytes of the rows from the start of dest on, row after row, those that fit. What it stores for rows that give no
 // leaves is unspecified.
@@ -70,12 +72,55 @@ fn store_next(rows: &[u32], text: &[u8], dest: &mut [u8], i: usize, at: usize) -
     requires { ⌜ (i < wholeRows (now rows)) × (at ≤ length (now dest)) ⌝ }
     ensures { λ r. ⌜ spot r (now (dest .exit)) ≡ storedRow (now (rows .entry)) (now (text .entry)) i (spot at (now (dest .entry))) ⌝ }
 {
-    let size = row_len(rows, i);
-    if dest.len() - at < size {
+    let row = table::row_at(rows, i);
+    if row.sort <= layout::SORT_FLAG {
+        return store_byte(dest, row.value, at);
+    }
+    if row.sort <= layout::SORT_COUNT {
+        return store_number(dest, row.value, at);
+    }
+    store_text(text, dest, row, at)
+}
+
+fn store_byte(dest: &mut [u8], value: u32, at: usize) -> usize
+    requires { ⌜ at ≤ length (now dest) ⌝ }
+    ensures { λ r. ⌜ spot r (now (dest .exit)) ≡ storedBytes (value % 256 ∷ []) (spot at (now (dest .entry))) ⌝ }
+{
+    if dest.len() <= at {
         return at;
     }
-    store_row(rows, text, dest, i, at);
-    at + size
+    dest[at] = (value % 256) as u8;
+    at + 1
+}
+
+fn store_number(dest: &mut [u8], value: u32, at: usize) -> usize
+    requires { ⌜ at ≤ length (now dest) ⌝ }
+    ensures { λ r. ⌜ spot r (now (dest .exit)) ≡ storedBytes (four value) (spot at (now (dest .entry))) ⌝ }
+{
+    if dest.len() - at < 4 {
+        return at;
+    }
+    bytes::put_number(dest, at, value);
+    at + 4
+}
+
+// A text is stored after its length, unless it leaves the lent bytes.
+fn store_text(text: &[u8], dest: &mut [u8], row: Row, at: usize) -> usize
+    requires { ⌜ at ≤ length (now dest) ⌝ }
+    ensures { λ r. ⌜ spot r (now (dest .exit)) ≡ storedBytes (textBytes (now (text .entry)) (row .offset) (row .value)) (spot at (now (dest .entry))) ⌝ }
+{
+    let start = row.offset as usize;
+    let size = row.value as usize;
+    if !entry_writer::stays(text, start, size) {
+        return at;
+    }
+    if dest.len() - at < 4 + size {
+        return at;
+    }
+    bytes::put_number(dest, at, row.value);
+    let end = start + size;
+    paste::paste(dest, at + 4, &text[start..end]);
+    at + 4 + size
 }
 
 // Stores the length of the payload of an entry that begins and ends at given places.
@@ -85,42 +130,4 @@ fn put_length(dest: &mut [u8], begin: usize, end: usize)
 {
     let length = end - begin - 4;
     bytes::put_number(dest, begin, (length % 4294967296) as u32);
-}
-
-// The number of bytes that a row takes.
-fn row_len(rows: &[u32], i: usize) -> usize
-    requires { ⌜ i < wholeRows (now rows) ⌝ }
-    ensures { λ r. ⌜ r ≡ rowLength (now (rows .entry)) i ⌝ }
-{
-    let row = table::row_at(rows, i);
-    if row.sort <= layout::SORT_FLAG {
-        return 1;
-    }
-    if row.sort <= layout::SORT_COUNT {
-        return 4;
-    }
-    4 + row.value as usize
-}
-
-// Stores the bytes of a row, which fit.
-fn store_row(rows: &[u32], text: &[u8], dest: &mut [u8], i: usize, at: usize)
-    requires { ⌜ (i < wholeRows (now rows)) × (at + rowLength (now rows) i ≤ length (now dest)) ⌝ }
-    ensures { λ r. ⌜ now (dest .exit) ≡ pasted (now (dest .entry)) at (rowBytes (now (rows .entry)) (now (text .entry)) i) ⌝ }
-{
-    let row = table::row_at(rows, i);
-    if row.sort <= layout::SORT_FLAG {
-        dest[at] = (row.value % 256) as u8;
-        return;
-    }
-    bytes::put_number(dest, at, row.value);
-    if row.sort <= layout::SORT_COUNT {
-        return;
-    }
-    let start = row.offset as usize;
-    let size = row.value as usize;
-    if !entry_writer::stays(text, start, size) {
-        return;
-    }
-    let end = start + size;
-    paste::paste(dest, at + 4, &text[start..end]);
 }

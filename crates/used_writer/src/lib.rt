@@ -7,6 +7,8 @@ ghost use Rattle.entry_writer.specs.Run.{consume};
 pub fn used_type(w: EntryWriter, rows: &[u32], text: &[u8]) -> EntryWriter
     ensures { λ r. ⌜ r ≡ consume UsedType (now (rows .entry)) (now (text .entry)) w ⌝ }
 {
+    let rows = &*rows;
+    let text = &*text;
     let w = w.str(rows, text); // ty_source
     let w = w.str(rows, text); // full_path
     let w = w.option_str(rows, text); // composite_type

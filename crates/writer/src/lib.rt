@@ -260,7 +260,7 @@ pub fn encode_sql_mapping(rows: &[u32], text: &[u8], dest: &mut [u8]) -> Length
     let Length::Counted { count: _ } = length else {
         return length;
     };
-    entry_writer::store(rows, text, dest);
+    storing::store(rows, text, dest);
     length
 }
 
@@ -274,6 +274,6 @@ pub fn encode_function_metadata_type(rows: &[u32], text: &[u8], dest: &mut [u8])
     let Length::Counted { count: _ } = length else {
         return length;
     };
-    entry_writer::store(rows, text, dest);
+    storing::store(rows, text, dest);
     length
 }

@@ -7,8 +7,8 @@ use lib.ListN.{length}
 use borrow.Author.Needs.{needs}
 use denote.Ref.{now}
 use Rattle.layout.specs.Answers.{wholeRows}
-use Rattle.storing.specs.Private.{Spot, spot, storedRows}
-use Rattle.storing.proofs.Rows.{row-between, rows-step, rows-done}
+use Rattle.storing.specs.Private.{rowBytes, Spot, spot, storedRows}
+use Rattle.storing.proofs.Rows.{bytes-between, rows-step, rows-done}
 use Rattle.storing.proofs.Stored.{stores}
 use Rattle.storing.proofs.store.Statement.{statement}
 use Rattle.storing.proofs.store.Tie as tie
@@ -38,7 +38,7 @@ loop-again c =
     let x = c .before .before .before .before .before .loop in
     let test = c .before .before .before .before .loop-test in
     let next = c .before .before .store-next in
-    let within = row-between (now (a .rows)) (now (a .text)) (x .i) (x .at) (x .dest) (x .inv .0) _ _ (next .ensures) in (
+    let within = bytes-between (rowBytes (now (a .rows)) (now (a .text)) (x .i)) (x .at) (x .dest) (x .inv .0) _ _ (next .ensures) in (
       search (needs, within .1),
       search (needs, x .inv .1),
       x .inv .2 ∙ rows-step (now (a .rows)) (now (a .text)) (wholeRows (now (a .rows))) (x .i) (spot (x .at) (x .dest)) (test .taken) _ (next .ensures),

@@ -1,49 +1,80 @@
--- The row fits, or does not.
+-- By the sort of the row.
 use native.Mathlib.Omega.{arith}
-use mathlib.Core.Path.{sym, _∙_}
+use mathlib.Core.Path.{sym, ap, _∙_}
+use mathlib.Core.List.{List}
+use Prim.Native.Nat.{ℕ}
 use denote.Ref.{now}
+use Rattle.table.proofs.Rows.{sort-there, offset-there, value-there}
+use Rattle.storing.specs.Private.{spot, storedBytes}
+use Rattle.storing.proofs.Rows.{bytes-one, bytes-four, bytes-text}
 use borrow.Author.Needs.{needs}
-use Rattle.storing.proofs.Rows.{row-fits, row-left}
 use Rattle.storing.proofs.store_next.Statement.{statement}
 use Rattle.storing.proofs.store_next.Tie as tie
 
-row-len-requires : tie.Need-row-len-requires
-row-len-requires c κs = search needs
+row-at-requires : tie.Need-row-at-requires
+row-at-requires c κs = search needs
 
-sub-if1 : tie.Need-sub-if1
-sub-if1 c = search needs
-
-returns : tie.Need-returns
-returns c =
-    let start = c .before .before .before .before .before in
-    let a = start .args in
-    sym (row-left (now (a .rows)) (now (a .text)) (a .i) (a .at) (now (a .dest)) (omega (arith, c .if1 .taken, c .before .row-len .ensures, start .pre .1)))
-
-store-row-requires : tie.Need-store-row-requires
-store-row-requires c κs = search needs
-
-add-result : tie.Need-add-result
-add-result c = search needs
+store-byte-requires : tie.Need-store-byte-requires
+store-byte-requires c κs = search needs
 
 same-length : tie.Need-same-length
 same-length c = search needs
 
+returns : tie.Need-returns
+returns c =
+    let start = c .before .before .before .before .before .before .before .before .before .before in
+    let a = start .args in
+    let row = c .before .before .before .before .before .before .row-at in
+    let sort = sort-there (now (a .rows)) (a .i) (start .pre .0) (row .ensures) in
+    let value = value-there (now (a .rows)) (a .i) (start .pre .0) (row .ensures) in
+    let bytes = bytes-one (now (a .rows)) (now (a .text)) (a .i) _ sort _ value (c .before .before .before .before .if1 .taken) in
+    c .before .before .store-byte .ensures ∙ ap (λ (b : List ℕ). storedBytes b (spot (a .at) (now (a .dest)))) (sym bytes)
+
+store-number-requires : tie.Need-store-number-requires
+store-number-requires c κs = search needs
+
+same-length-2 : tie.Need-same-length-2
+same-length-2 c = search needs
+
 returns-2 : tie.Need-returns-2
 returns-2 c =
-    let start = c .before .before .before .before .before .before .before .before .before in
+    let start = c .before .before .before .before .before .before .before .before .before .before .before .before in
     let a = start .args in
-    let size = c .before .before .before .before .before .row-len in
-    let fits = row-fits (now (a .rows)) (now (a .text)) (a .i) (a .at) (now (a .dest)) (omega (arith, c .before .before .before .before .if1 .left, size .ensures, start .pre .1)) in
-    rw (size .ensures, c .before .before .store-row .ensures) (sym fits)
+    let row = c .before .before .before .before .before .before .before .before .row-at in
+    let if1 = c .before .before .before .before .before .before .if1 in
+    let sort = sort-there (now (a .rows)) (a .i) (start .pre .0) (row .ensures) in
+    let value = value-there (now (a .rows)) (a .i) (start .pre .0) (row .ensures) in
+    let bytes = bytes-four (now (a .rows)) (now (a .text)) (a .i) _ sort _ value (if1 .left) (c .before .before .before .before .if2 .taken) in
+    c .before .before .store-number .ensures ∙ ap (λ (b : List ℕ). storedBytes b (spot (a .at) (now (a .dest)))) (sym bytes)
+
+store-text-requires : tie.Need-store-text-requires
+store-text-requires c κs = search needs
+
+same-length-3 : tie.Need-same-length-3
+same-length-3 c = search needs
+
+returns-3 : tie.Need-returns-3
+returns-3 c =
+    let start = c .before .before .before .before .before .before .before .before .before .before .before .before in
+    let a = start .args in
+    let row = c .before .before .before .before .before .before .before .before .row-at in
+    let sort = sort-there (now (a .rows)) (a .i) (start .pre .0) (row .ensures) in
+    let value = value-there (now (a .rows)) (a .i) (start .pre .0) (row .ensures) in
+    let offset = offset-there (now (a .rows)) (a .i) (start .pre .0) (row .ensures) in
+    let bytes = bytes-text (now (a .rows)) (now (a .text)) (a .i) _ sort _ value (c .before .before .before .before .if2 .left) _ offset in
+    c .before .before .store-text .ensures ∙ ap (λ (b : List ℕ). storedBytes b (spot (a .at) (now (a .dest)))) (sym bytes)
 
 pub store-next-spec : {M : Type 1} → statement M
 store-next-spec =
     tie.close
     (tie.spec
-    row-len-requires
-    sub-if1
-    returns
-    store-row-requires
-    add-result
+    row-at-requires
+    store-byte-requires
     same-length
-    returns-2)
+    returns
+    store-number-requires
+    same-length-2
+    returns-2
+    store-text-requires
+    same-length-3
+    returns-3)

@@ -9,8 +9,8 @@ use borrow.Author.Tests.{eq-eqb, ne-eqb}
 use denote.Ref.{now}
 use Rattle.layout.specs.Answers.{wholeRows}
 use Rattle.table.proofs.Rows.{sort-there}
-use Rattle.storing.specs.Private.{spot, storedRows, isKind, nextKind}
-use Rattle.storing.proofs.Rows.{row-between, rows-step, next-above, next-here, next-later, next-none, payload-ends}
+use Rattle.storing.specs.Private.{rowBytes, spot, storedRows, isKind, nextKind}
+use Rattle.storing.proofs.Rows.{bytes-between, rows-step, next-above, next-here, next-later, next-none, payload-ends}
 use Rattle.storing.proofs.store_payload.Statement.{statement}
 use Rattle.storing.proofs.store_payload.Tie as tie
 
@@ -34,7 +34,7 @@ loop-holds c =
     let start = c .before .before .before .before .before .before .before in
     let a = start .args in
     let next = c .before .before .store-next in
-    let within = row-between (now (a .rows)) (now (a .text)) (a .first) (a .begin) (now (a .dest)) (start .pre .1) _ _ (next .ensures) in
+    let within = bytes-between (rowBytes (now (a .rows)) (now (a .text)) (a .first)) (a .begin) (now (a .dest)) (start .pre .1) _ _ (next .ensures) in
     (omega arith, search (needs, within .1), refl, refl, refl)
 
 row-at-requires : tie.Need-row-at-requires Inv-loop μ-loop
@@ -72,7 +72,7 @@ loop-again c =
     let rows = now (a .rows) in
     let other : isKind rows (x .i) ≡ false = ne-eqb _ _ (λ z. c .before .before .before .before .if1 .left (sort-there rows (x .i) (test .taken) (row .ensures) ∙ z)) in
     let later = x .inv .3 ∙ next-later rows (wholeRows rows) (x .i) (test .taken) other in
-    let within = row-between rows (now (a .text)) (x .i) (x .at) (x .dest) (x .inv .1) _ _ (next .ensures) in (
+    let within = bytes-between (rowBytes rows (now (a .text)) (x .i)) (x .at) (x .dest) (x .inv .1) _ _ (next .ensures) in (
       omega (arith, within .0, x .inv .0),
       search (needs, within .1),
       search (needs, x .inv .2),

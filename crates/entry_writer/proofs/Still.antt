@@ -1,7 +1,7 @@
 -- A refused writer does not change, and any other continues.
 use Prim.Native.Nat.{ℕ}
 use mathlib.Core.List.{List}
-use mathlib.Core.Path.{_≡_}
+use mathlib.Core.Path.{_≡_, ap, _∙_}
 use borrow.Author.Tests.{eq-eqb, ne-eqb}
 use Rattle.layout.specs.Layout.{Layout, Sort}
 use Rattle.layout.proofs.Forms.{Still, drive-still, loop-still}
@@ -40,3 +40,7 @@ run-refused L rows text w h = drive-still (writer rows text) Refused (writer-sti
 -- So a loop whose result is r may end early, at a refused writer
 pub loop-refused : (L : Layout) (rows text : List ℕ) (r w : EntryWriter) → r ≡ consume L rows text w → Refused w → w ≡ r
 loop-refused L rows text r w e h = loop-still (writer rows text) Refused (writer-still rows text) L r w e h
+
+-- A writing from a copy of a writer
+pub copy-in : (L : Layout) (rows text : List ℕ) (w w₁ r : EntryWriter) → w₁ ≡ w → r ≡ consume L rows text w₁ → r ≡ consume L rows text w
+copy-in L rows text w w₁ r e q = q ∙ ap (consume L rows text) e

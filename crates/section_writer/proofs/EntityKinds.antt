@@ -12,7 +12,7 @@ use Rattle.layout.specs.Entities.{TypeOrigin, Resolution, OptionResolution, Fun
 use Rattle.layout.specs.Entities.{DeclaredSql, DeclaredType, SqlDeclared, SqlDeclaredList, FinalizeModify, OptionFinalizeModify, ParallelOption, OptionParallelOption, Schema, CustomSql, Function, PostgresType, PostgresEnum, OrdOrHash, Aggregate, Trigger, entityKinds, Entity}
 use Rattle.layout.proofs.Each.{Each, each-join}
 use Rattle.entry_writer.specs.Refusals.{Along}
-use Rattle.entry_writer.specs.Storing.{NoKind, KindFirst}
+use Rattle.storing.specs.Storing.{NoKind, KindFirst}
 
 -- Not the sort of a kind
 data Other : Sort → Type 0 where

@@ -24,7 +24,7 @@ use Rattle.entry_writer.specs.Run.{closing}
 use Rattle.entry_writer.specs.Writing.{lengthIn, written}
 use Rattle.entry_writer.specs.Writing as writing
 use Rattle.entry_writer.specs.Refusals.{RowGives, Sized, Writable, ExactLength, ExactWriting}
-use Rattle.entry_writer.specs.Storing.{Gives, KindsFirst, entriesOf, StoresEntries}
+use Rattle.storing.specs.Storing.{Gives, KindsFirst, entriesOf, StoresEntries}
 use Rattle.entry_writer.proofs.Along.{along-also}
 use Rattle.entry_writer.proofs.Spelled.{spells-given, fitting}
 use Rattle.entry_writer.proofs.Measured.{Stands, Reached, arrives, halts, reached-as, stands-length, stands-new, consumed}

@@ -6,14 +6,21 @@ use lib.ListN.{drop}
 use Rattle.layout.specs.Entities.{externArgs, ExternArg}
 use Rattle.layout.proofs.Forms.{tags-bare, tags-in, tags-wrong}
 use Rattle.layout.proofs.Tables.{of-two}
+use Rattle.entry_writer.proofs.Still.{copy-in}
 use Rattle.attribute_writer.proofs.extern_arg.Statement.{statement}
 use Rattle.attribute_writer.proofs.extern_arg.Tie as tie
 
 u8-requires : tie.Need-u8-requires
 u8-requires c κs = tt
 
+copy-requires : tie.Need-copy-requires
+copy-requires c κs = tt
+
 positioning-ref-requires : tie.Need-positioning-ref-requires
 positioning-ref-requires c κs = tt
+
+copy-requires-2 : tie.Need-copy-requires-2
+copy-requires-2 c κs = tt
 
 positioning-ref-list-requires : tie.Need-positioning-ref-list-requires
 positioning-ref-list-requires c κs = tt
@@ -29,11 +36,15 @@ refused-requires c κs = tt
 
 returns : tie.Need-returns
 unfolding ExternArg
-returns c = tags-in externArgs 15 _ _ _ _ (c .before .before .u8 .ensures) (c .before .match .keys1) refl (c .positioning-ref .ensures)
+returns c =
+    let q = copy-in _ _ _ _ _ _ (c .before .copy .ensures) (c .positioning-ref .ensures) in
+    tags-in externArgs 15 _ _ _ _ (c .before .before .before .u8 .ensures) (c .before .before .match .keys1) refl q
 
 returns-2 : tie.Need-returns-2
 unfolding ExternArg
-returns-2 c = tags-in externArgs 18 _ _ _ _ (c .before .before .u8 .ensures) (c .before .match .keys2) refl (c .positioning-ref-list .ensures)
+returns-2 c =
+    let q = copy-in _ _ _ _ _ _ (c .before .copy2 .ensures) (c .positioning-ref-list .ensures) in
+    tags-in externArgs 18 _ _ _ _ (c .before .before .before .u8 .ensures) (c .before .before .match .keys2) refl q
 
 returns-3 : tie.Need-returns-3
 unfolding ExternArg
@@ -63,7 +74,9 @@ extern-arg-spec =
     tie.close
     (tie.spec
     u8-requires
+    copy-requires
     positioning-ref-requires
+    copy-requires-2
     positioning-ref-list-requires
     str-requires
     str-requires-2

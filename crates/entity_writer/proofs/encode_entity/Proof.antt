@@ -3,7 +3,8 @@ use mathlib.Core.Path.{ap}
 use denote.Ref.{now}
 use Rattle.layout.specs.Entities.{Entity}
 use Rattle.length.specs.Length.{lengthOf}
-use Rattle.entry_writer.proofs.Passes.{refused-whole, second-pass}
+use Rattle.entry_writer.proofs.Passes.{refused-whole}
+use Rattle.storing.proofs.Passes.{second-pass}
 use borrow.Author.Needs.{needs}
 use Rattle.entity_writer.proofs.encode_entity.Statement.{statement}
 use Rattle.entity_writer.proofs.encode_entity.Tie as tie

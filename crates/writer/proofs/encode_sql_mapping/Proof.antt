@@ -3,7 +3,8 @@ use mathlib.Core.Path.{ap}
 use denote.Ref.{now}
 use Rattle.layout.specs.Entities.{SqlMapping}
 use Rattle.length.specs.Length.{lengthOf}
-use Rattle.entry_writer.proofs.Passes.{refused-whole, second-pass}
+use Rattle.entry_writer.proofs.Passes.{refused-whole}
+use Rattle.storing.proofs.Passes.{second-pass}
 use borrow.Author.Needs.{needs}
 use Rattle.writer.proofs.encode_sql_mapping.Statement.{statement}
 use Rattle.writer.proofs.encode_sql_mapping.Tie as tie

@@ -55,7 +55,8 @@
  *   12      TRAILING_BYTES   bytes remain after the entity, the record or the mapping   the first of them
  *   13      TABLE_TOO_SMALL  the table has fewer whole rows than the reading needs      0
  *   14      BAD_ROWS         the rows given to a writer do not spell exactly one        0
- *                            record or mapping
+ *                            record, mapping or entity, or for a section one
+ *                            entity or more
  *   15      BAD_TEXT_ROW     a text row leaves the lent bytes or is not UTF-8 there,    0
  *                            or a row given as text is of another sort
  *   16      OUTPUT_TOO_LONG  the written length is more than PGRXSC_LIMIT               0
@@ -183,6 +184,23 @@ void pgrxsc_write_mapping(const uint32_t *rows, size_t rows_len, const uint8_t *
                           size_t dest_len, uint64_t answer[4]);
 
 /*
+ * The same for one entity of any kind, which is written as a payload. The rows of a declaration that a reading refuses with 10
+ * or 11 are refused with 14. pgrxsc_payload_len tells how long dest must be.
+ */
+void pgrxsc_write_payload(const uint32_t *rows, size_t rows_len, const uint8_t *text, size_t text_len, uint8_t *dest,
+                          size_t dest_len, uint64_t answer[4]);
+
+/*
+ * The same for one or more entities, which are written as a section: an entry for each, its length and its payload, without
+ * sentinels and padding. No rows are refused with 14. pgrxsc_section_len tells how long dest must be.
+ *
+ * From the rows of a section that was read, with the section as `text`, that section is written, without its sentinels and its
+ * padding.
+ */
+void pgrxsc_write_section(const uint32_t *rows, size_t rows_len, const uint8_t *text, size_t text_len, uint8_t *dest,
+                          size_t dest_len, uint64_t answer[4]);
+
+/*
  * Measures one metadata record before it is written, which tells how many bytes to lend as dest: a is the length that
  * pgrxsc_write_metadata writes from the same rows and text, b is 0. Refusals 14 to 16, which are those of the writing.
  */
@@ -190,6 +208,12 @@ void pgrxsc_metadata_len(const uint32_t *rows, size_t rows_len, const uint8_t *t
 
 /* The same for one mapping, which pgrxsc_write_mapping writes. */
 void pgrxsc_mapping_len(const uint32_t *rows, size_t rows_len, const uint8_t *text, size_t text_len, uint64_t answer[4]);
+
+/* The same for one entity, which pgrxsc_write_payload writes. */
+void pgrxsc_payload_len(const uint32_t *rows, size_t rows_len, const uint8_t *text, size_t text_len, uint64_t answer[4]);
+
+/* The same for a section, which pgrxsc_write_section writes: four bytes for the length of each entry are counted too. */
+void pgrxsc_section_len(const uint32_t *rows, size_t rows_len, const uint8_t *text, size_t text_len, uint64_t answer[4]);
 
 /*
  * Returns the number of unordered pairs of entities of a section with the same full_path bytes; schemas have none and are in no

@@ -88,6 +88,24 @@ mod archive {
             dest_len: usize,
             answer: *mut u64,
         );
+        pub fn pgrxsc_write_payload(
+            rows: *const u32,
+            rows_len: usize,
+            text: *const u8,
+            text_len: usize,
+            dest: *mut u8,
+            dest_len: usize,
+            answer: *mut u64,
+        );
+        pub fn pgrxsc_write_section(
+            rows: *const u32,
+            rows_len: usize,
+            text: *const u8,
+            text_len: usize,
+            dest: *mut u8,
+            dest_len: usize,
+            answer: *mut u64,
+        );
         pub fn pgrxsc_metadata_len(
             rows: *const u32,
             rows_len: usize,
@@ -96,6 +114,20 @@ mod archive {
             answer: *mut u64,
         );
         pub fn pgrxsc_mapping_len(
+            rows: *const u32,
+            rows_len: usize,
+            text: *const u8,
+            text_len: usize,
+            answer: *mut u64,
+        );
+        pub fn pgrxsc_payload_len(
+            rows: *const u32,
+            rows_len: usize,
+            text: *const u8,
+            text_len: usize,
+            answer: *mut u64,
+        );
+        pub fn pgrxsc_section_len(
             rows: *const u32,
             rows_len: usize,
             text: *const u8,
@@ -221,6 +253,8 @@ pub(crate) fn sql_text(bytes: &[u8], offset: u32, buffer: &mut [u8]) -> (bool, A
 pub(crate) enum Written {
     Metadata,
     Mapping,
+    Payload,
+    Section,
 }
 
 /// a is the written length.
@@ -229,6 +263,8 @@ pub(crate) fn write(written: Written, rows: &[u32], text: &[u8], dest: &mut [u8]
     let function = match written {
         Written::Metadata => archive::pgrxsc_write_metadata,
         Written::Mapping => archive::pgrxsc_write_mapping,
+        Written::Payload => archive::pgrxsc_write_payload,
+        Written::Section => archive::pgrxsc_write_section,
     };
     let mut answer = UNANSWERED;
     // SAFETY: the pointers and lengths are those of slices, the answer has four numbers, and
@@ -253,6 +289,8 @@ pub(crate) fn written_len(written: Written, rows: &[u32], text: &[u8]) -> Answer
     let function = match written {
         Written::Metadata => archive::pgrxsc_metadata_len,
         Written::Mapping => archive::pgrxsc_mapping_len,
+        Written::Payload => archive::pgrxsc_payload_len,
+        Written::Section => archive::pgrxsc_section_len,
     };
     let mut answer = UNANSWERED;
     // SAFETY: the pointers and lengths are those of slices; the answer has four numbers and

@@ -1,11 +1,12 @@
-//! Reads pgrx schema sections, and writes the metadata records and mappings that are in them.
+//! Reads and writes pgrx schema sections.
 //!
 //! An extension built with pgrx declares its functions, types and aggregates in a section
 //! `.pgrxsc` of its shared object. The section is a run of entries, each a length and a payload of
 //! one entity, and then zero bytes, if any. The reader is proved: it accepts exactly the sections
 //! that the format's written layouts allow, and gives all others one numbered [`Refusal`] with its
-//! place. This crate lends that reader's archive the slices, and gives its answers as Rust types.
-//! `docs/FORMAT.md` in the repository describes the format, its rows and the refusals.
+//! place. The writer is proved too: what it writes is read as the rows that it was given. This crate
+//! lends their archive the slices, and gives its answers as Rust types. `docs/FORMAT.md` in the
+//! repository describes the format, its rows and the refusals.
 //!
 //! ```
 //! use pgrxsc::{EntityKind, Refusal, Table};
@@ -29,8 +30,27 @@
 //! A reading gives a [`Row`] for each value of the section, in the order in which they stand there.
 //! The rows are stored in a table of 32-bit numbers, [`ROW_WIDTH`] to a row, which the caller lends
 //! ([`read_section`]) or a [`Table`] holds. Texts are not copied: they are parts of the bytes read.
-//! Nothing is reserved for a count or a length that only stands in the section; only a [`Table`] and
-//! [`path_pairs`] reserve memory at all, by the number of bytes that they are given.
+//! Nothing is reserved for a count or a length that only stands in the section; only a [`Table`],
+//! [`path_pairs`] and a [`Builder`] reserve memory at all, by the number of bytes that they are
+//! given.
+//!
+//! # Writing
+//!
+//! A writer takes rows and texts: those of a reading, or those that a [`Builder`] made. A section of
+//! a test extension is some structs:
+//!
+//! ```
+//! use pgrxsc::builder::{Builder, Function, Return, Schema, UsedType};
+//!
+//! let mut builder = Builder::new();
+//! builder.add(Schema { name: "api", module_path: "ext::api", ..Schema::default() });
+//! builder.add(Function { name: "one", fn_return: Return::Type(UsedType::new("i32", "INT")), ..Function::default() });
+//! let section = builder.to_section()?;
+//! # assert_eq!(pgrxsc::Table::new().read_section(&section)?.entities().len(), 2);
+//! # Ok::<(), pgrxsc::Refusal>(())
+//! ```
+//!
+//! [`Builder`]: builder::Builder
 //!
 //! # What is proved, and what is not
 //!
@@ -52,6 +72,7 @@
 #![deny(unsafe_code)]
 #![deny(missing_docs)]
 
+pub mod builder;
 #[allow(unsafe_code)]
 mod ffi;
 mod parts;
@@ -68,7 +89,10 @@ pub use reading::{
 pub use refusal::{Refusal, RefusalKind};
 pub use row::{EntityKind, Row, Sort};
 pub use table::{table_len, Table};
-pub use writing::{mapping_len, metadata_len, write_mapping, write_metadata};
+pub use writing::{
+    mapping_len, metadata_len, payload_len, section_len, write_mapping, write_metadata,
+    write_payload, write_section,
+};
 
 /// The version of the archive that the crate works with, `PGRXSC_VERSION` in `include/pgrxsc.h`. It
 /// grows by one whenever a function, a row or a refusal changes its shape or its meaning.

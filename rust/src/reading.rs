@@ -197,7 +197,8 @@ impl<'b, 't> Reading<'b, 't> {
     }
 
     /// The rows as the table has them, [`ROW_WIDTH`] numbers each. With [`bytes`](Self::bytes) as
-    /// the text, they are what [`write_metadata`](crate::write_metadata) and
+    /// the text, they are what [`write_section`](crate::write_section),
+    /// [`write_payload`](crate::write_payload), [`write_metadata`](crate::write_metadata) and
     /// [`write_mapping`](crate::write_mapping) take.
     pub fn numbers(&self) -> &'t [u32] {
         self.numbers
@@ -248,7 +249,8 @@ impl<'b, 't> Entity<'b, 't> {
         }
     }
 
-    /// The entity's rows as the table has them, [`ROW_WIDTH`] numbers each.
+    /// The entity's rows as the table has them, [`ROW_WIDTH`] numbers each. With the bytes that were
+    /// read as the text, they are what [`write_payload`](crate::write_payload) takes.
     pub fn numbers(&self) -> &'t [u32] {
         self.numbers
     }

@@ -21,7 +21,7 @@ use std::fmt;
 /// | 11 | [`DeclaredError`] | a declaration's result is an error | the result |
 /// | 12 | [`TrailingBytes`] | bytes are left after the entity, the record or the mapping | the first of them |
 /// | 13 | [`TableTooSmall`] | the table is too small for the rows | 0 |
-/// | 14 | [`BadRows`] | the rows to be written are not those of one record, or of one mapping | 0 |
+/// | 14 | [`BadRows`] | the rows to be written are not those of one record, mapping or entity, or, for a section, of one entity or more | 0 |
 /// | 15 | [`BadTextRow`] | a text row lies outside the bytes or is not UTF-8 there, or a row given as text is none | 0 |
 /// | 16 | [`OutputTooLong`] | more than [`LIMIT`] bytes would be written | 0 |
 /// | 17 | [`BadBufferSize`] | the destination is too short, or the buffer for an SQL text has not [`SQL_TEXT_SIZE`] bytes | 0 |
@@ -118,7 +118,8 @@ pub enum RefusalKind {
     TrailingBytes = 12,
     /// The table has fewer rows than the reading needs.
     TableTooSmall = 13,
-    /// The rows to be written are not those of one record, or of one mapping.
+    /// The rows to be written are not those of one record, mapping or entity, or, for a section, of
+    /// one entity or more.
     BadRows = 14,
     /// A row is no text of the bytes given.
     BadTextRow = 15,
@@ -219,9 +220,11 @@ impl fmt::Display for Refusal {
             RefusalKind::TableTooSmall => {
                 write!(f, "the table has fewer rows than the reading needs")
             }
-            RefusalKind::BadRows => {
-                write!(f, "the rows do not spell exactly one record or mapping")
-            }
+            RefusalKind::BadRows => write!(
+                f,
+                "the rows do not spell exactly one record, mapping or entity, or, for a section, \
+                 one entity or more"
+            ),
             RefusalKind::BadTextRow => write!(
                 f,
                 "a row is no text of the bytes given: it leaves them, or is not UTF-8 there, \

@@ -52,6 +52,66 @@ pub fn write_mapping(rows: &[u32], text: &[u8], dest: &mut [u8]) -> Result<usize
     length(ffi::write(Written::Mapping, rows, text, dest))
 }
 
+/// Writes one entity as a payload to the start of `dest`, as [`write_metadata`] writes a record.
+/// [`payload_len`] tells how many bytes `dest` must have. A [`Builder`](crate::builder::Builder)
+/// makes the rows and the text of an entity that was not read.
+///
+/// Rows that were read are written back as the bytes that they were read from, also if they are
+/// those of one entity of a section: `text` is then the section, since the offsets count from its
+/// start.
+///
+/// # Errors
+///
+/// [`Refusal`]s 14 to 17. The rows of a declaration that reads as 10 or 11 get 14.
+///
+/// ```
+/// use pgrxsc::{write_payload, Table};
+///
+/// // Two schemas.
+/// let section = b"\x12\0\0\0\x01\x01\0\0\0a\0\0\0\0\0\0\0\0\x01\0\0\0\
+///                 \x12\0\0\0\x01\x01\0\0\0b\0\0\0\0\0\0\0\0\x02\0\0\0";
+/// let mut table = Table::new();
+/// let second = table.read_section(section)?.entities().nth(1).unwrap();
+///
+/// let mut dest = [0; 18];
+/// assert_eq!(write_payload(second.numbers(), section, &mut dest), Ok(18));
+/// assert_eq!(dest, section[26..]);
+/// # Ok::<(), pgrxsc::Refusal>(())
+/// ```
+pub fn write_payload(rows: &[u32], text: &[u8], dest: &mut [u8]) -> Result<usize, Refusal> {
+    length(ffi::write(Written::Payload, rows, text, dest))
+}
+
+/// Writes one or more entities as a section to the start of `dest`, as [`write_payload`] writes one:
+/// an entry for each, without sentinels and without padding. [`section_len`] tells how many bytes
+/// `dest` must have.
+///
+/// So a section that was read is written back byte for byte, but for its sentinels and its padding,
+/// if it has an entity.
+///
+/// # Errors
+///
+/// [`Refusal`]s 14 to 17. No rows are no section: they get 14.
+///
+/// ```
+/// use pgrxsc::{section_len, write_section, Table};
+///
+/// // A sentinel, a schema, and padding.
+/// let section = b"\x09\0\0\0\0\x04\0\0\0pgrx\
+///                 \x12\0\0\0\x01\x01\0\0\0a\0\0\0\0\0\0\0\0\x01\0\0\0\
+///                 \0\0\0";
+/// let mut table = Table::new();
+/// let reading = table.read_section(section)?;
+///
+/// let mut dest = vec![0; section_len(reading.numbers(), reading.bytes())?];
+/// write_section(reading.numbers(), reading.bytes(), &mut dest)?;
+/// assert_eq!(dest, section[13..35]);
+/// # Ok::<(), pgrxsc::Refusal>(())
+/// ```
+pub fn write_section(rows: &[u32], text: &[u8], dest: &mut [u8]) -> Result<usize, Refusal> {
+    length(ffi::write(Written::Section, rows, text, dest))
+}
+
 /// Measures a metadata record before it is written: gives the length that [`write_metadata`] writes
 /// from the same rows and text, and so the number of bytes that `dest` must have.
 ///
@@ -106,6 +166,33 @@ pub fn metadata_len(rows: &[u32], text: &[u8]) -> Result<usize, Refusal> {
 /// ```
 pub fn mapping_len(rows: &[u32], text: &[u8]) -> Result<usize, Refusal> {
     length(ffi::written_len(Written::Mapping, rows, text))
+}
+
+/// Measures one entity's payload before [`write_payload`] writes it, as [`metadata_len`] measures a
+/// record.
+///
+/// # Errors
+///
+/// [`Refusal`]s 14 to 16.
+pub fn payload_len(rows: &[u32], text: &[u8]) -> Result<usize, Refusal> {
+    length(ffi::written_len(Written::Payload, rows, text))
+}
+
+/// Measures a section before [`write_section`] writes it, as [`metadata_len`] measures a record. The
+/// length has the four bytes before each payload in it.
+///
+/// # Errors
+///
+/// [`Refusal`]s 14 to 16.
+pub fn section_len(rows: &[u32], text: &[u8]) -> Result<usize, Refusal> {
+    length(ffi::written_len(Written::Section, rows, text))
+}
+
+/// What is written, in as many bytes as it takes.
+pub(crate) fn written(what: Written, rows: &[u32], text: &[u8]) -> Result<Vec<u8>, Refusal> {
+    let mut dest = vec![0; length(ffi::written_len(what, rows, text))?];
+    length(ffi::write(what, rows, text, &mut dest))?;
+    Ok(dest)
 }
 
 /// The length in an answer, or its refusal.

@@ -1,92 +1,19 @@
 //! The reading of a section beside the Rust's `decode_entities`, in one process and by turns; then the time of the path report,
 //! on 10,000 entities at most, or with `--paths` on as many as fit a section. Built and run by `compare/bench`.
 mod common;
+mod sections;
 
 use common::{median, Random};
 use pgrx_sql_entity_graph::section::decode_entities;
 use pgrxsc::{path_pairs, read_section, Refusal, LIMIT, ROW_WIDTH};
+use sections::{entries, function, schema, Entry, MIB};
 use std::hint::black_box;
 use std::time::Instant;
 
-const MIB: usize = 1 << 20;
 const TURNS: usize = 31;
 
 /// How often each path report is made.
 const PATH_TURNS: usize = 3;
-
-/// The bytes of one entry, part after part.
-#[derive(Default)]
-struct Entry(Vec<u8>);
-
-impl Entry {
-    fn tag(mut self, tag: u8) -> Self {
-        self.0.push(tag);
-        self
-    }
-
-    fn tags(mut self, tags: &[u8]) -> Self {
-        self.0.extend(tags);
-        self
-    }
-
-    fn number(mut self, number: u32) -> Self {
-        self.0.extend(number.to_le_bytes());
-        self
-    }
-
-    fn text(mut self, text: &[u8]) -> Self {
-        self = self.number(text.len() as u32);
-        self.0.extend(text);
-        self
-    }
-
-    /// A used type with an SQL type of its own, as argument and as result.
-    fn used_type(self, source: &str, sql: &str) -> Self {
-        let ident = format!("pgrx_sql_entity_graph::metadata::sql_translatable::{source}");
-        self.text(source.as_bytes())
-            .text(source.as_bytes())
-            .tags(&[0, 0, 0, 0]) // composite_type, variadic, default, optional
-            .tag(1) // resolution
-            .text(ident.as_bytes())
-            .tag(2) // External
-            .tags(&[1, 1]) // Ok, As
-            .text(sql.as_bytes())
-            .tags(&[1, 1, 1]) // Ok, One, As
-            .text(sql.as_bytes())
-    }
-
-    fn add_to(self, section: &mut Vec<u8>) {
-        section.extend((self.0.len() as u32).to_le_bytes());
-        section.extend(self.0);
-    }
-}
-
-/// A function of two arguments, as the macros write it: the paths, the types' names and their idents as they come out of the
-/// published code.
-fn function(i: usize) -> Entry {
-    let name = format!("range_of_motion_{i}");
-    let path = format!("rehab::exercise::{name}");
-    Entry::default()
-        .tag(3)
-        .text(name.as_bytes())
-        .text(name.as_bytes())
-        .text(b"rehab::exercise")
-        .text(path.as_bytes())
-        .number(2)
-        .text(b"angle")
-        .used_type("f64", "double precision")
-        .text(b"joint")
-        .used_type("str", "TEXT")
-        .tag(2) // Type
-        .used_type("i32", "INT")
-        .tag(0) // schema
-        .text(b"src/exercise.rs")
-        .number(i as u32)
-        .number(3)
-        .tags(&[2, 3, 10]) // Immutable, Strict, ParallelSafe
-        .tags(&[0, 0, 0]) // search_path, operator, cast
-        .tags(&[1, 0]) // to_sql_config
-}
 
 /// A trigger as the macros write it. It is short, so that 100,000 fit a section.
 fn trigger(i: usize) -> Entry {
@@ -104,24 +31,6 @@ fn trigger(i: usize) -> Entry {
 /// A trigger with a full_path and no other text. No entry with a full_path is shorter: it has 27 bytes and those of the path.
 fn path_alone(path: impl AsRef<[u8]>) -> Entry {
     Entry::default().tag(9).text(b"").text(b"").number(0).text(b"").text(path.as_ref()).tags(&[1, 0])
-}
-
-/// A schema with a module_path alone.
-fn schema(text: &[u8]) -> Entry {
-    Entry::default().tag(1).text(text).text(b"").text(b"").number(0)
-}
-
-/// As many entries as fit.
-fn entries(size: usize, entry: impl Fn(usize) -> Entry) -> Vec<u8> {
-    let mut section = Vec::new();
-    for i in 0.. {
-        let next = entry(i);
-        if size < section.len() + 4 + next.0.len() {
-            break;
-        }
-        next.add_to(&mut section);
-    }
-    section
 }
 
 fn one_text(text: Vec<u8>) -> Vec<u8> {

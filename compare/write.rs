@@ -1,9 +1,12 @@
-//! The metadata writer on records of some 16 MiB: the bytes that it writes, then its speed beside that of copying these bytes and
-//! checking their texts. Built and run by `compare/write [SEED]`.
+//! The writers. First sections, written back from the rows that were read: the time of the writing beside that of the reading.
+//! Then metadata records of some 16 MiB: the bytes that are written, and the speed beside that of copying these bytes and checking
+//! their texts. Built and run by `compare/write [--sections] [SEED]`.
 mod common;
+mod sections;
 
 use common::{median, Random};
-use pgrxsc::{Refusal, Row, Sort, LIMIT, ROW_WIDTH};
+use pgrxsc::{read_section, section_len, table_len, write_section, Refusal, Row, Sort, LIMIT, ROW_WIDTH};
+use sections::{entries, function, schema, MIB};
 use std::hint::black_box;
 use std::time::Instant;
 
@@ -120,10 +123,53 @@ fn race(name: &str, record: Record) {
     );
 }
 
+/// A section that is read, and written back from its rows: its bytes, and those after them; then the times by turns of one reading
+/// and one writing, or of as many as have 1 MiB: the medians of 31 turns, and of the turns' ratios. The length alone comes last.
+fn back(name: &str, section: &[u8]) {
+    let len = section.len();
+    let mut table = vec![0; table_len(section)];
+    let reading = read_section(section, &mut table).expect("accepted");
+    let (count, rows) = (reading.entities().len(), reading.numbers().to_vec());
+    table.truncate(rows.len());
+    let mut dest = vec![0xaa; len + 16];
+    assert_eq!(section_len(&rows, section), Ok(len), "{name}: the length");
+    assert_eq!(write_section(&rows, section, &mut dest), Ok(len), "{name}: the answer");
+    assert!(dest[..len] == *section, "{name}: the bytes");
+    assert!(dest[len..].iter().all(|&byte| byte == 0xaa), "{name}: the bytes after");
+
+    let turns = (MIB / len).max(1);
+    let each = |work: &mut dyn FnMut()| milliseconds(|| (0..turns).for_each(|_| work())) / turns as f64;
+    let mut times = [const { Vec::new() }; 3];
+    for _ in 0..31 {
+        times[0].push(each(&mut || assert!(read_section(black_box(section), &mut table).is_ok())));
+        times[1].push(each(&mut || assert_eq!(write_section(black_box(&rows), section, &mut dest), Ok(len))));
+        times[2].push(each(&mut || assert_eq!(section_len(black_box(&rows), section), Ok(len))));
+    }
+    let ratio = median((0..31).map(|turn| times[1][turn] / times[0][turn]).collect());
+    let [read, write, measure] = times.map(median);
+    println!(
+        "{name:32} {len:9} {count:8} {:9} {read:8.3} {write:8.3} {ratio:8.2} {measure:8.3}",
+        rows.len() / ROW_WIDTH
+    );
+}
+
 fn main() {
-    let seed = std::env::args().nth(1).map_or(3629, |seed| seed.parse().expect("a number as seed"));
+    let (sections, words): (Vec<_>, Vec<_>) = std::env::args().skip(1).partition(|word| word == "--sections");
+    let seed = words.first().map_or(3629, |seed| seed.parse().expect("a number as seed"));
     let mut random = Random(seed | 1);
-    println!("Milliseconds. The share: of the speed of copying and of the faster check, which is to be 0.5 or more.\n");
+    println!("Milliseconds. The ratio: of the time of the writing to that of the reading, which is to be 2 at most.\n");
+    println!(
+        "{:32} {:>9} {:>8} {:>9} {:>8} {:>8} {:>8} {:>8}",
+        "a section of", "bytes", "entities", "rows", "read", "write", "ratio", "length"
+    );
+    back("functions, 64 KiB", &entries(MIB / 16, function));
+    back("functions, 1 MiB", &entries(MIB, function));
+    back("functions, 8 MiB", &entries(8 * MIB, function));
+    back("empty schemas, 8 MiB", &entries(8 * MIB, |_| schema(b"")));
+    if !sections.is_empty() {
+        return;
+    }
+    println!("\nMilliseconds. The share: of the speed of copying and of the faster check, which is to be 0.5 or more.\n");
     println!(
         "{:32} {:>9} {:>8} {:>8} {:>8} {:>8} {:>8} {:>8}",
         "a record of", "rows", "write", "copy", "check", "std's", "rows x 2", "share"

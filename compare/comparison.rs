@@ -6,6 +6,7 @@ use crate::layouts::{self, Reading};
 use crate::rebuild::{self, Calls, Objects};
 use crate::sample::hexadecimal;
 use crate::what::{numbers, part, sql_text, SqlText, What};
+use crate::spelled;
 use crate::written::{self, Value};
 use pgrx_sql_entity_graph::metadata::SqlMapping;
 use pgrx_sql_entity_graph::section::{decode_entities, decode_entity, EntryReader};
@@ -65,6 +66,10 @@ pub struct Comparison {
     pub long: u64,
     /// Lengths of values that were not yet written.
     pub lengths: u64,
+    pub payloads: u64,
+    pub sections: u64,
+    /// Rows that a writer of payloads or sections refuses, by the refusal's number.
+    pub refused_rows: [u64; 18],
     pub differences: u64,
     turn: usize,
     table: Vec<u32>,
@@ -388,6 +393,105 @@ impl Comparison {
             self.differ(what, &theirs, "other rows are read back");
         }
     }
+
+    /// Compares the writing of a generated payload or section, whose texts stand elsewhere, and then of its rows damaged.
+    pub fn writing_entities(&mut self, what: What, generator: &mut Generator) {
+        let bytes = generator.make(what);
+        self.by_layouts.read(what, &bytes).expect("what is generated is whole");
+        let (rows, text) = written::lend(&self.by_layouts.rows, &bytes, &mut generator.random);
+        let mut rows = numbers(&rows);
+        let more = generator.random.below(20);
+        let (class, damaged) = match what {
+            What::Section => ("written sections", "sections of damaged rows"),
+            _ => ("written payloads", "payloads of damaged rows"),
+        };
+        if let Some(back) = self.written_rows(class, what, &rows, &text, more) {
+            if oracle(what, &back) != oracle(what, &bytes) {
+                self.differ(what, &bytes, &format!("the Rust reads other objects from {}", shortened(&back)));
+            }
+        }
+        let other = generator.make(What::Payload);
+        self.by_layouts.read(What::Payload, &other).expect("what is generated is whole");
+        let other = numbers(&self.by_layouts.rows);
+        for _ in 0..=generator.random.below(8) / 6 {
+            generator.damage_rows(&mut rows, &other);
+        }
+        self.written_rows(damaged, what, &rows, &text, more);
+    }
+
+    /// Compares the writing of a section from the rows that were read last, those of these bytes.
+    pub fn writing_back(&mut self, class: &'static str, bytes: &[u8]) {
+        let rows = numbers(&self.by_layouts.rows);
+        self.written_rows(class, What::Section, &rows, bytes, 0);
+    }
+
+    /// Compares the length and the writing of rows, and then the reading of what was written, which is returned. The destination
+    /// has some bytes more than are needed.
+    fn written_rows(
+        &mut self,
+        class: &'static str,
+        what: What,
+        rows: &[u32],
+        text: &[u8],
+        more: usize,
+    ) -> Option<Vec<u8>> {
+        let expected = spelled::written(what, rows, text);
+        self.attempt((what, rows), text, |_| compare_writing(what, rows, text, more, &expected));
+        match expected {
+            Err(refusal) => {
+                self.refused_rows[refusal.number() as usize] += 1;
+                None
+            }
+            Ok(bytes) => {
+                match what {
+                    What::Section => self.sections += 1,
+                    _ => self.payloads += 1,
+                }
+                // Both read it, and the rows are those that were given, but for offsets
+                let before = self.differences;
+                self.reading(class, what, &bytes);
+                let read = self.by_layouts.rows.iter().map(|row| (row.sort.number(), row.value));
+                let given = rows.chunks_exact(ROW_WIDTH).map(|row| (row[0], row[2]));
+                if self.differences == before && !read.eq(given) {
+                    self.differ(what, &bytes, "other rows are read back");
+                }
+                Some(bytes)
+            }
+        }
+    }
+}
+
+/// Compares the length and the writing of rows with what is expected of them.
+fn compare_writing(
+    what: What,
+    rows: &[u32],
+    text: &[u8],
+    more: usize,
+    expected: &Result<Vec<u8>, Refusal>,
+) -> Result<(), String> {
+    let len = expected.as_ref().map(Vec::len).map_err(|refusal| *refusal);
+    let measured = what.written_len(rows, text);
+    if measured != len {
+        return Err(format!("the length is {measured:?}, by the layouts {len:?}"));
+    }
+    let bytes = expected.as_deref().unwrap_or_default();
+    let mut dest = vec![UNTOUCHED; bytes.len() + more];
+    let answer = what.write(rows, text, &mut dest);
+    if answer != len {
+        return Err(format!("written with {answer:?}, by the layouts {len:?}"));
+    }
+    let (front, after) = dest.split_at(bytes.len());
+    if front != bytes || after.iter().any(|&byte| byte != UNTOUCHED) {
+        return Err(format!("written as {}, by the layouts {}", shortened(&dest), shortened(bytes)));
+    }
+    if let Some(short) = bytes.len().checked_sub(1) {
+        let mut dest = vec![UNTOUCHED; short];
+        let answer = what.write(rows, text, &mut dest);
+        if answer != Err(Refusal::new(17, 0)) || dest.iter().any(|&byte| byte != UNTOUCHED) {
+            return Err(format!("written to a byte less with {answer:?}, as {}", shortened(&dest)));
+        }
+    }
+    Ok(())
 }
 
 /// The leaves of rows, as `flatten` gives those of objects.

@@ -5,7 +5,7 @@ use crate::layouts::{
     SENTINEL,
 };
 use crate::what::What;
-use pgrxsc::{Row, Sort};
+use pgrxsc::{Row, Sort, ROW_WIDTH};
 
 pub struct Generator {
     pub random: Random,
@@ -274,16 +274,70 @@ impl Generator {
 
     /// Alters the number in the four bytes from an offset on.
     fn alter(&mut self, bytes: &mut [u8], at: usize) {
-        let number = four(bytes, at);
-        let number = match self.random.below(6) {
+        let number = self.other(four(bytes, at));
+        bytes[at..at + 4].copy_from_slice(&number.to_le_bytes());
+    }
+
+    /// Another number, near that one or not.
+    fn other(&mut self, number: u32) -> u32 {
+        match self.random.below(6) {
             0 => number.wrapping_add(1),
             1 => number.wrapping_sub(1),
             2 => number.wrapping_add(1 + self.random.below(8) as u32),
             3 => self.random.below(20) as u32,
             4 => self.random.next() as u32 >> self.random.below(32),
             _ => self.number(),
-        };
-        bytes[at..at + 4].copy_from_slice(&number.to_le_bytes());
+        }
+    }
+
+    /// Damages the rows that a writer is given; `other` are some of something else.
+    pub fn damage_rows(&mut self, rows: &mut Vec<u32>, other: &[u32]) {
+        let count = rows.len() / ROW_WIDTH;
+        let at = self.random.below(count.max(1)) * ROW_WIDTH;
+        match self.random.below(10) {
+            _ if count == 0 => rows.extend(other),
+            // A number of a row: of any, then of a text, which may still be one
+            0..3 => {
+                let number = at + self.random.below(ROW_WIDTH);
+                rows[number] = self.other(rows[number]);
+            }
+            3 => {
+                let text = self.text_row(rows);
+                rows[text + 1] = self.other(rows[text + 1]);
+            }
+            // A row that is missing, or there twice
+            4 => drop(rows.drain(at..at + ROW_WIDTH)),
+            5 => {
+                let row = rows[at..at + ROW_WIDTH].to_vec();
+                rows.splice(at..at, row);
+            }
+            // A text's row elsewhere, which may be in the place of another text
+            6 => {
+                let (one, two) = (self.text_row(rows), self.text_row(rows));
+                (0..ROW_WIDTH).for_each(|number| rows.swap(one + number, two + number));
+            }
+            7 => {
+                let text = self.text_row(rows);
+                let row: Vec<u32> = rows.drain(text..text + ROW_WIDTH).collect();
+                let to = self.random.below(count) * ROW_WIDTH;
+                rows.splice(to..to, row);
+            }
+            // An end that is missing, or that of other rows
+            8 => rows.truncate(self.random.below(rows.len())),
+            _ => {
+                let from = self.random.below(other.len() / ROW_WIDTH + 1) * ROW_WIDTH;
+                rows.truncate([at, rows.len()][self.random.below(2)]);
+                rows.extend(&other[from..]);
+            }
+        }
+    }
+
+    /// Where the row of a text begins, or another if none is found.
+    fn text_row(&mut self, rows: &[u32]) -> usize {
+        let text = Sort::Text.number();
+        let start = self.random.below(rows.len() / ROW_WIDTH);
+        let found = rows.chunks_exact(ROW_WIDTH).skip(start).position(|row| row[0] == text);
+        (start + found.unwrap_or(0)) * ROW_WIDTH
     }
 
     /// A byte that is likely to matter.

@@ -8,6 +8,7 @@ mod generate;
 mod layouts;
 mod rebuild;
 mod sample;
+mod spelled;
 mod what;
 mod written;
 
@@ -41,6 +42,15 @@ fn generated(comparison: &mut Comparison, cases: u64, seed: u64) {
             comparison.writing(what, &mut generator);
             (generator.unused, generator.text_len) = usual;
         }
+    }
+}
+
+/// Sections and payloads that are written from rows, each followed by damaged rows.
+fn entities(comparison: &mut Comparison, cases: u64, seed: u64) {
+    let mut generator = Generator::new(seed);
+    for case in 0..cases {
+        let what = if case % 2 == 0 { What::Section } else { What::Payload };
+        comparison.writing_entities(what, &mut generator);
     }
 }
 
@@ -119,6 +129,7 @@ fn large(comparison: &mut Comparison, generator: &mut Generator) {
         text.resize(LIMIT - 21, b'a');
         let mut section = schema(&text);
         comparison.reading(LARGE, What::Section, &section);
+        comparison.writing_back(LARGE, &section);
         section[LIMIT - 13] = 0xc3;
         comparison.reading(LARGE, What::Section, &section);
     }
@@ -139,6 +150,7 @@ fn large(comparison: &mut Comparison, generator: &mut Generator) {
     let end = section.len();
     section.resize(LIMIT, 0);
     comparison.reading(LARGE, What::Section, &section);
+    comparison.writing_back(LARGE, &section);
     for _ in 0..10 {
         let at = end - 1 - generator.random.below(1000);
         let byte = std::mem::replace(&mut section[at], generator.random.next() as u8);
@@ -209,6 +221,10 @@ fn print(comparison: &Comparison) {
         ("path reports", comparison.path_reports),
         ("pairs in them", comparison.path_pairs),
         ("checks of a text alone", comparison.checks),
+        ("sections written", comparison.sections),
+        ("payloads written", comparison.payloads),
+        ("rows that spell neither, 14", comparison.refused_rows[14]),
+        ("rows with a bad text, 15", comparison.refused_rows[15]),
         ("records written", comparison.records),
         ("mappings written", comparison.mappings),
         ("longer than 256, not written", comparison.long),
@@ -246,6 +262,7 @@ fn main() {
 
     let mut comparison = Comparison::default();
     generated(&mut comparison, options["--cases"], seed);
+    entities(&mut comparison, options["--cases"].div_ceil(2), seed);
     systematic(&mut comparison, options["--cases"].div_ceil(2000), seed);
     let mut generator = Generator::new(seed);
     large(&mut comparison, &mut generator);

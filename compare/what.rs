@@ -20,21 +20,22 @@ impl What {
         }
     }
 
-    /// Writes a metadata record or a mapping.
     pub fn write(self, rows: &[u32], text: &[u8], dest: &mut [u8]) -> Result<usize, Refusal> {
         match self {
+            What::Section => pgrxsc::write_section(rows, text, dest),
+            What::Payload => pgrxsc::write_payload(rows, text, dest),
             What::Metadata => pgrxsc::write_metadata(rows, text, dest),
             What::Mapping => pgrxsc::write_mapping(rows, text, dest),
-            _ => panic!("no writer of a {self:?}"),
         }
     }
 
-    /// Measures a metadata record or a mapping before it is written.
+    /// Measures what is not yet written.
     pub fn written_len(self, rows: &[u32], text: &[u8]) -> Result<usize, Refusal> {
         match self {
+            What::Section => pgrxsc::section_len(rows, text),
+            What::Payload => pgrxsc::payload_len(rows, text),
             What::Metadata => pgrxsc::metadata_len(rows, text),
             What::Mapping => pgrxsc::mapping_len(rows, text),
-            _ => panic!("no writer of a {self:?}"),
         }
     }
 }

@@ -12,7 +12,7 @@ use Rattle.layout.specs.Layout.{Layout}
 use Rattle.layout.specs.Reading.{Outcome, ok, refuse, _>>=_, need, walk}
 use Rattle.layout.specs.Answers.{limit, wholeRows}
 use Rattle.layout.proofs.Walk.{All, given, all-bind, all-need, all-ok, all-when}
-use Rattle.table.specs.Answers.{Total, counted, uncounted}
+use Rattle.table.specs.Answers.{counted, uncounted}
 use Rattle.entry_writer.specs.Rows.{inRows, goodRows}
 use Rattle.entry_writer.specs.Writing.{wholly, spelled, measuredAs, within, measured, write, lengthIn, written}
 use Rattle.entry_writer.specs.Refusals.{Form, alone, Spells, GoodTexts, Writable, WriteRefusal, not-spelled, bad-text, too-long, no-space, ExactLength, ExactWriting}

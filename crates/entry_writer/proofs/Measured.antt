@@ -1,5 +1,5 @@
 -- A writing from the first row on: its result in terms of the rows, and its length at the end.
-use Prim.Native.Nat.{ℕ, suc, _+_, _*_, _<_}
+use Prim.Native.Nat.{ℕ, suc, _+_, _*_}
 use native.Mathlib.Nat.{add-zero}
 use native.Mathlib.Omega.{arith}
 use mathlib.Core.Bool.{Bool, true, false, cond, _&&_, and-true, and-false, and-eq-true-iff}
@@ -16,7 +16,7 @@ use Rattle.layout.proofs.Walk.{All, all-ok}
 use Rattle.layout.proofs.Follow.{Gait, Keeps, pushAll, Follows, moved, stops, moved-of, stops-of, follow}
 use Rattle.table.specs.Answers.{counted, uncounted}
 use Rattle.entry_writer.specs.Rows.{isRow, plainIn, lentAt, textIn, inRows, staysAt, goodAt, goodRows}
-use Rattle.entry_writer.specs.Writing.{fourteen, wholly, spelled, measuredAs, measured, lengthIn}
+use Rattle.entry_writer.specs.Writing.{fourteen, wholly, measuredAs, lengthIn}
 use Rattle.entry_writer.specs.Refusals.{RowGives, Sized}
 use Rattle.entry_writer.specs.State.{newWriter, stoppedWriter, stoppedOnce, past, lengthTaken, arrivePlain, pastText, arriveText, consumePlain, consumeText}
 use Rattle.entry_writer.specs.Private.{stopped}

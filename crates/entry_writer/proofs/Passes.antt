@@ -7,7 +7,7 @@ use mathlib.Core.Path.{_≡_, refl, sym, ap, subst, _∙_}
 use lib.Dec.{leb}
 use lib.ListN.{length, drop}
 use Rattle.layout.specs.Layout.{Layout}
-use Rattle.layout.specs.Reading.{Outcome, ok, refuse, _>>=_, need}
+use Rattle.layout.specs.Reading.{Outcome, ok, refuse, need}
 use Rattle.table.specs.Answers.{Total, counted, uncounted}
 use Rattle.entry_writer.specs.declared.EntryWriter.{EntryWriter}
 use Rattle.entry_writer.specs.Writing.{spelled, within, measured, write, fitting, lengthIn, written}

@@ -6,15 +6,15 @@ use mathlib.Core.List.{List, [], _∷_}
 use mathlib.Core.Path.{_≡_, refl, sym, ap, subst, _∙_}
 use lib.Dec.{eqb, leb}
 use lib.ListN.{length, length-append}
-use borrow.Author.Tests.{eqb-true, eqb-false, eq-eqb, ltb-true, lt-ltb, leb-true, leb-false, le-leb, lt-leb}
+use borrow.Author.Tests.{eqb-true, eqb-false, eq-eqb, ltb-true, lt-ltb, leb-true, le-leb}
 use Rattle.text.specs.Rfc3629.{Utf8}
 use Rattle.text.proofs.Exact.{utf8-exact}
 use Rattle.layout.specs.Layout.{Sort, Kind, Tag, Flag, Number, Count, Leaf, plain, string, Layout, Value, leaves, Meets, bound, Fits}
-use Rattle.layout.specs.Written.{textSort, leafBytes, bytesOf, bytes, rowWidth, sortNumber, sortAt}
+use Rattle.layout.specs.Written.{textSort, leafBytes, bytesOf, rowWidth, sortNumber, sortAt}
 use Rattle.layout.specs.Reading.{Outcome, ok, refuse, _>>=_, need, walk, utf8}
 use Rattle.layout.specs.Answers.{limit, wholeRows}
 use Rattle.layout.proofs.Each.{Each, each-of, meets-each}
-use Rattle.layout.proofs.Walk.{All, given, refused, all-ok, all-bind, all-need, all-when, Sound, Complete, sound, complete}
+use Rattle.layout.proofs.Walk.{All, given, refused, all-bind, all-need, Sound, Complete, sound, complete}
 use Rattle.entry_writer.specs.Rows.{isRow, lentAt, inRows, staysAt, goodAt, goodRows}
 use Rattle.entry_writer.specs.Writing.{fourteen, wholly}
 use Rattle.entry_writer.specs.Refusals.{RowGives, Along, Sized, Form, alone, Spells, GoodText, GoodTexts}

@@ -6,7 +6,7 @@ use mathlib.Core.Path.{_≡_}
 use lib.ListN.{length, drop}
 use Rattle.text.specs.Rfc3629.{Utf8}
 use Rattle.layout.specs.Layout.{Leaf, plain, string, Layout, Value, leaves, Meets, bound, Proper}
-use Rattle.layout.specs.Written.{bytesOf, bytes, rowWidth, sortNumber, textSort, sortAt, offsetAt, valueAt}
+use Rattle.layout.specs.Written.{bytes, rowWidth, sortNumber, textSort, sortAt, offsetAt, valueAt}
 use Rattle.layout.specs.Answers.{limit, wholeRows}
 use Rattle.table.specs.Answers.{Total, counted, uncounted}
 use Rattle.entry_writer.specs.Rows.{lentAt}

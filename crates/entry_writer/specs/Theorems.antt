@@ -12,7 +12,7 @@ use Rattle.layout.specs.ReadAlone.{readingAlone}
 use Rattle.layout.specs.Theorems.{Bytes}
 use Rattle.entry_writer.specs.Rows.{lentAt}
 use Rattle.entry_writer.specs.Writing.{measured, write, lengthIn, written}
-use Rattle.entry_writer.specs.Refusals.{Form, alone, Spells, GoodTexts, WriteRefusal, Writable, ExactLength, ExactWriting}
+use Rattle.entry_writer.specs.Refusals.{alone, Spells, GoodTexts, WriteRefusal, Writable, ExactLength, ExactWriting}
 
 -- What is written is what the value spelled by the rows derives, if its texts are good, its length is at most the limit and the
 -- destination has space; and every such value is written: `write-exact` in Spelled.antt

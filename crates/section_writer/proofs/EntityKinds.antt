@@ -1,12 +1,12 @@
 -- The kind of an entity is its first leaf, and no other leaf is a kind.
 use Prim.Native.Nat.{ℕ, zero, suc, _+_}
 use mathlib.Core.Bool.{Bool, true, false, cond}
-use mathlib.Core.List.{List, [], _∷_, _++_}
+use mathlib.Core.List.{List, [], _∷_}
 use native.Mathlib.Omega.{arith}
 use mathlib.Core.Path.{_≡_, refl}
 use lib.Dec.{eqb}
-use Rattle.layout.specs.Layout.{Sort, Kind, Tag, Flag, Number, Count, Leaf, plain, string, Verdict, Layout, nothing, one, text, _then_, case, check, Value, leaves}
-use Rattle.layout.specs.Forms.{number, flag, times, any, list, may, onlyIf, Tags, _⇒_, tags, tagsAfter, follows}
+use Rattle.layout.specs.Layout.{Sort, Kind, Tag, Flag, Number, Count, Leaf, Verdict, Layout, nothing, one, text, _then_, case, check, Value, leaves}
+use Rattle.layout.specs.Forms.{times, list, may, onlyIf, Tags, tags, tagsAfter, follows}
 use Rattle.layout.specs.Entities.{OptionStr, OptionU32, StrList, Numeric, SqlArrayMapping, SqlMapping, SqlMappingList, Returns, ArgumentError, ArgumentSql, ReturnsError, ReturnSql, PositioningRef, PositioningRefList, ToSqlConfig}
 use Rattle.layout.specs.Entities.{TypeOrigin, Resolution, OptionResolution, FunctionMetadataType, UsedType, OptionUsedType, PgExternArgument, PgExternArgumentList, AggregateType, AggregateTypeList, OptionAggregateTypeList, PgExternReturn, ExternArg, ExternArgList, SearchPath, Operator, OptionOperator, Cast, OptionCast}
 use Rattle.layout.specs.Entities.{DeclaredSql, DeclaredType, SqlDeclared, SqlDeclaredList, FinalizeModify, OptionFinalizeModify, ParallelOption, OptionParallelOption, Schema, CustomSql, Function, PostgresType, PostgresEnum, OrdOrHash, Aggregate, Trigger, entityKinds, Entity}

@@ -1,7 +1,5 @@
 -- What is written, and what is refused, in terms of what the rows spell.
-use Prim.Native.Nat.{ℕ, _≤_}
 use native.Mathlib.Omega.{arith}
-use mathlib.Core.List.{List}
 use mathlib.Core.Path.{_≡_, ap, _∙_}
 use lib.ListN.{length}
 use Rattle.layout.specs.Answers.{wholeRows}

@@ -1,16 +1,16 @@
 -- The results of the two passes over the rows of a section.
-use Prim.Native.Nat.{ℕ, zero, suc, _+_, _≤_, _<_}
+use Prim.Native.Nat.{ℕ, zero, suc, _+_, _≤_}
 use native.Mathlib.Omega.{arith}
 use mathlib.Core.Bool.{Bool, true, false, cond}
 use mathlib.Core.List.{List, [], _∷_, _++_, map, append-nil}
-use mathlib.Core.Path.{_≡_, refl, sym, ap, subst, _∙_}
+use mathlib.Core.Path.{_≡_, refl, ap, subst, _∙_}
 use lib.Dec.{eqb, leb}
 use lib.ListN.{length, drop, length-append}
 use borrow.Author.Tests.{eq-eqb}
-use Rattle.layout.specs.Layout.{Leaf, Value, leaves, Fits}
+use Rattle.layout.specs.Layout.{Value, leaves, Fits}
 use Rattle.layout.specs.Written.{four, bytesOf, bytes}
 use Rattle.layout.specs.Entities.{Entity}
-use Rattle.layout.specs.Reading.{Outcome, ok, refuse, _>>=_, walk}
+use Rattle.layout.specs.Reading.{Outcome, ok, _>>=_, walk}
 use Rattle.layout.specs.Answers.{limit, wholeRows}
 use Rattle.layout.proofs.InBytes.{bytesOf-append}
 use Rattle.layout.proofs.Each.{Each, each-part, each-join, each-of, meets-each}

@@ -12,7 +12,7 @@ use Rattle.layout.specs.Layout.{Leaf, Value, leaves, Fits}
 use Rattle.layout.specs.Written.{four, bytes, bytesOf, rowWidth, rowsFrom}
 use Rattle.layout.specs.Entities.{Entity}
 use Rattle.layout.specs.Reading.{ok}
-use Rattle.layout.specs.Answers.{limit, Answer, accepted, Result, Given, wholeRows, acceptance, refusal}
+use Rattle.layout.specs.Answers.{Answer, accepted, Result, Given, wholeRows, acceptance, refusal}
 use Rattle.layout.proofs.InBytes.{rest-after}
 use Rattle.layout.proofs.Rows.{rows-length}
 use Rattle.layout.proofs.Each.{Each, each-of, each-join}
@@ -27,7 +27,6 @@ use Rattle.entry_writer.proofs.Along.{along-join}
 use Rattle.entry_writer.proofs.Spelled.{whole-rows}
 use Rattle.entry_writer.proofs.RoundTrips.{Holds, HoldAll, rows-hold, fits-sized, hold-spells, hold-good, returned}
 use Rattle.section_writer.specs.Form.{sectionOf, sectionBytes, sectionLeaves, EachAllowed, section}
-use Rattle.section_writer.specs.Writing.{writeSection}
 use Rattle.section_writer.specs.Theorems.{entityValues, Read-section, Section-rewritten, Section-back}
 use Rattle.section_writer.proofs.Exact.{section-written, entities-unique}
 use Rattle.section_writer.proofs.Passes.{proper-section}

@@ -2,14 +2,14 @@
 use Prim.Native.Nat.{ℕ, zero, suc, _+_, _≤_}
 use native.Mathlib.Omega.{arith}
 use mathlib.Core.Bool.{Bool, true, false, cond}
-use mathlib.Core.List.{List, [], _∷_, _++_, map, append-nil}
-use mathlib.Core.Path.{_≡_, refl, sym, ap, subst, _∙_}
+use mathlib.Core.List.{List, [], _∷_, append-nil}
+use mathlib.Core.Path.{_≡_, ap, _∙_}
 use lib.Dec.{leb}
 use lib.ListN.{length, length-append}
 use borrow.Author.Tests.{le-leb, lt-leb}
-use Rattle.layout.specs.Layout.{Leaf, Value, leaves, Meets}
+use Rattle.layout.specs.Layout.{Value, leaves, Meets}
 use Rattle.layout.specs.Entities.{Entity}
-use Rattle.layout.specs.Reading.{Outcome, ok, refuse, _>>=_, walk}
+use Rattle.layout.specs.Reading.{ok, _>>=_, walk}
 use Rattle.layout.specs.Answers.{wholeRows}
 use Rattle.layout.proofs.Walk.{All, given, refused, all-bind}
 use Rattle.entry_writer.specs.Rows.{inRows}

@@ -12,11 +12,10 @@ use Rattle.layout.specs.Answers.{accepted, Result, wholeRows}
 use Rattle.section.specs.Derivation.{Item, sentinel, entity, Derivation, sentinels}
 use Rattle.section.specs.Section.{reading}
 use Rattle.section.specs.Demand3.{Good}
-use Rattle.entry_writer.specs.Refusals.{Spells, Writable, WriteRefusal, ExactLength, ExactWriting}
+use Rattle.entry_writer.specs.Refusals.{Spells, Writable, WriteRefusal}
 use Rattle.entry_writer.specs.Theorems.{SameRow, ReadsBack}
-use Rattle.entry_writer.specs.Writing.{lengthIn, written}
 use Rattle.section_writer.specs.Form.{sectionBytes, section}
-use Rattle.section_writer.specs.Writing.{measuredSection, writeSection}
+use Rattle.section_writer.specs.Writing.{writeSection}
 
 -- What is written is the section of the entities that the rows spell, if their texts are good, it is at most the limit and the
 -- destination has space; and every such section is written: `section-written` in Exact.antt

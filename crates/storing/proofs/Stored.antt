@@ -5,22 +5,21 @@ use native.Mathlib.Omega.{arith}
 use mathlib.Core.Bool.{true, _&&_, and-eq-true-iff}
 use mathlib.Core.List.{List, [], _∷_, _++_, append-assoc, append-nil}
 use mathlib.Core.Path.{_≡_, refl, sym, ap, _∙_}
-use lib.Dec.{leb}
-use lib.ListN.{length, take, drop, length-append, length-drop}
+use lib.ListN.{length, drop, length-append, length-drop}
 use lib.Seq.{take-append-seam, drop-append-add, drop-drop, length-take-le}
-use borrow.Author.Tests.{le-leb, leb-true, eq-eqb}
+use borrow.Author.Tests.{leb-true, eq-eqb}
 use Rattle.layout.specs.Layout.{Kind, Tag, Flag, Number, Count, Leaf, plain, string}
-use Rattle.layout.specs.Written.{textSort, four, leafBytes, bytesOf, sortAt, offsetAt, valueAt}
+use Rattle.layout.specs.Written.{textSort, leafBytes, bytesOf, sortAt, offsetAt, valueAt}
 use Rattle.layout.specs.Reading.{utf8}
 use Rattle.layout.specs.Answers.{wholeRows}
 use Rattle.layout.proofs.Each.{Each}
 use Rattle.paste.specs.Pasted.{pasted}
 use Rattle.paste.proofs.Pasted.{pasted-fits}
 use Rattle.entry_writer.specs.Rows.{lentAt, staysAt, goodAt}
-use Rattle.storing.specs.Private.{textBytes, rowBytes, Spot, spot, storedBytes, storedRow, storedRows}
+use Rattle.storing.specs.Private.{rowBytes, Spot, spot, storedBytes, storedRow, storedRows}
 use Rattle.entry_writer.specs.Refusals.{RowGives, Sized}
-use Rattle.storing.specs.Storing.{Gives, Stores}
-use Rattle.entry_writer.proofs.Along.{along-each, along-map, along-also}
+use Rattle.storing.specs.Storing.{Stores}
+use Rattle.entry_writer.proofs.Along.{along-each, along-map}
 use Rattle.entry_writer.proofs.Spelled.{There, Given, given-there, good-sound, all-good}
 use Rattle.storing.proofs.Rows.{bytes-fit, bytes-one, bytes-four, bytes-text, text-there}
 

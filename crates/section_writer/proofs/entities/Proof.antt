@@ -2,7 +2,6 @@
 use native.Mathlib.Omega.{arith}
 use mathlib.Core.Path.{_≡_, refl, sym, ap, _∙_}
 use denote.Ref.{now}
-use borrow.Author.Needs.{needs}
 use Rattle.layout.specs.Entities.{Entity}
 use Rattle.layout.specs.Answers.{wholeRows}
 use Rattle.entry_writer.specs.Run.{consume}

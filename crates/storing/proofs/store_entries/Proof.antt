@@ -1,12 +1,12 @@
 -- The entries of the rows before index i are stored; whatever the others come to, all rows do.
 use Prim.Native.Nat.{_+_, _-_, _≤_}
 use native.Mathlib.Omega.{arith}
-use mathlib.Core.Path.{_≡_, refl, sym, subst}
+use mathlib.Core.Path.{_≡_, refl}
 use lib.ListN.{length}
 use borrow.Author.Needs.{needs}
 use denote.Ref.{now}
 use Rattle.layout.specs.Answers.{wholeRows}
-use Rattle.storing.specs.Private.{Spot, spot, lengthStored}
+use Rattle.storing.specs.Private.{Spot, spot}
 use Rattle.storing.proofs.Rows.{next-above}
 use Rattle.storing.proofs.Entries.{Leads, ends, full, goes, stores-entries}
 use Rattle.storing.proofs.store_entries.Statement.{statement}

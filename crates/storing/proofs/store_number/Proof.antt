@@ -1,9 +1,8 @@
 -- The number fits, or does not.
 use native.Mathlib.Omega.{arith}
-use mathlib.Core.Path.{sym, ap, _∙_}
+use mathlib.Core.Path.{sym}
 use denote.Ref.{now}
 use Rattle.layout.specs.Written.{four}
-use Rattle.storing.specs.Private.{spot}
 use Rattle.storing.proofs.Rows.{bytes-fit, bytes-left}
 use borrow.Author.Needs.{needs}
 use Rattle.storing.proofs.store_number.Statement.{statement}

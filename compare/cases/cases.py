@@ -31,10 +31,10 @@ CRATE = HERE.parents[1] / "crates" / "cases"
 
 READINGS = ("S", "P", "M", "G")  # a section; one payload, one metadata record, one mapping, each alone
 PARTS = ("T", "N", "Q")  # a row's text, the SQL name from a row, the SQL text of a mapping
-WRITINGS = ("W", "w")  # a metadata record, one mapping
-MEASURINGS = {"W": "V", "w": "v"}  # the same, measured
+WRITINGS = ("W", "w", "E", "e")  # a metadata record, one mapping, one entity as a payload, a section of entities
+MEASURINGS = {"W": "V", "w": "v", "E": "L", "e": "l"}  # the same, measured
 # R is the path report; O is a section as objects; U is the text check
-LETTERS = READINGS + PARTS + ("R",) + WRITINGS + ("V", "v", "O", "U")
+LETTERS = READINGS + PARTS + ("R",) + WRITINGS + tuple(MEASURINGS.values()) + ("O", "U")
 LENGTH_DIGITS = 5
 MANY = 5461  # rows
 ROW_WIDTH = 3
@@ -126,6 +126,13 @@ RETURNS_TABLE = "3,0,0 2,0,2 2,0,1 2,0,1 2,0,3"
 LONG = RETURNS_TABLE + " 5,0,1024" + " 2,0,1 6,0,16379" * 1023 + " 2,0,1"
 LONG_TEXT = b"a" * 16379
 
+# The rows of a schema with empty texts, and of an enum with 1024 variants, up to the last one's text, and after it. If that has
+# 16349 bytes, the payload has 16,777,216; a section has four more
+SCHEMA = "1,0,1 6,0,0 6,0,0 6,0,0 4,0,0"
+LONG_ENUM = "1,0,5 6,0,0 6,0,0 4,0,0 6,0,0 6,0,0 6,0,0 5,0,1024" + " 6,0,16380" * 1023
+LONG_ENUM_END = " 3,0,0 3,0,0"
+LONG_VARIANT = b"a" * 16380
+
 # Writings: letter, table, lent text, and what is written; the destination has three bytes more
 ADDED_WRITES = [
     ("W", RECORD, b"", "000105010105"),
@@ -147,6 +154,11 @@ ADDED_WRITES = [
     # Unused numbers
     ("w", "2,0,3 3,0,0 4,0,7 3,0,0 4,0,4294967295", b"", "03000700000000ffffffff"),
     ("w", "2,0,2 2,0,3 3,0,0 4,0,9 3,0,1 4,0,256", b"", "020300090000000100010000"),
+    # Entities (FORMAT.md, Worked cases); two of them, with other offsets and with texts that are lent in another order
+    ("E", SCHEMA, b"", "01" + "00" * 16),
+    ("e", SCHEMA, b"", "1100000001" + "00" * 16),
+    ("E", "1,7,1 6,1,1 6,0,1 6,0,2 4,7,258", b"ab", "01" + "0100000062" + "0100000061" + "020000006162" + "02010000"),
+    ("e", SCHEMA + " 1,7,1 6,1,1 6,0,1 6,0,2 4,7,258", b"ab", "1100000001" + "00" * 16 + "15000000" + "01" + "0100000062" + "0100000061" + "020000006162" + "02010000"),
 ]
 
 # Writings that are refused: letter, table, lent text, the destination's size, and the number
@@ -215,6 +227,25 @@ ADDED_REFUSED_WRITES = [
     ("W", LONG + " 6,0,16371", LONG_TEXT, 9, 16),
     ("W", LONG + " 6,0,16370", LONG_TEXT, 9, 17),
     ("W", LONG + " 6,0,16380", LONG_TEXT, 9, 15),
+    ("E", LONG_ENUM + " 6,0,16350" + LONG_ENUM_END, LONG_VARIANT, 9, 16),
+    ("E", LONG_ENUM + " 6,0,16349" + LONG_ENUM_END, LONG_VARIANT, 9, 17),
+    ("e", LONG_ENUM + " 6,0,16346" + LONG_ENUM_END, LONG_VARIANT, 9, 16),
+    ("e", LONG_ENUM + " 6,0,16345" + LONG_ENUM_END, LONG_VARIANT, 9, 17),
+    ("e", SCHEMA + " " + LONG_ENUM + " 6,0,16325" + LONG_ENUM_END, LONG_VARIANT, 9, 16),
+    ("e", SCHEMA + " " + LONG_ENUM + " 6,0,16324" + LONG_ENUM_END, LONG_VARIANT, 9, 17),
+    # Entities: no rows; two for a payload; none, a part of one, or other rows after the first
+    ("E", "", b"", 9, 14),
+    ("e", "", b"", 9, 14),
+    ("E", SCHEMA + " " + SCHEMA, b"", 99, 14),
+    ("e", SCHEMA + " 0,0,0", b"", 99, 14),
+    ("e", SCHEMA + " " + SCHEMA[:-6], b"", 99, 14),
+    ("e", SCHEMA + " 2,0,1 6,0,0 6,0,0 6,0,0 4,0,0", b"", 99, 14),
+    ("e", SCHEMA + " 1,0,0 6,0,0 6,0,0 6,0,0 4,0,0", b"", 99, 14),
+    ("E", "1,0,10 6,0,0 6,0,0 6,0,0 4,0,0", b"", 99, 14),
+    ("E", "1,0,257 6,0,0 6,0,0 6,0,0 4,0,0", b"", 99, 14),
+    # A bad text in the first of two, and one before rows that are wrong
+    ("e", "1,0,1 6,0,1 6,0,0 6,0,0 4,0,0 " + SCHEMA, b"", 99, 15),
+    ("e", "1,0,1 6,0,1 6,0,0 6,0,0 4,0,0 " + SCHEMA + " 0,0,0", b"", 99, 14),
 ]
 
 

@@ -294,49 +294,73 @@ impl Generator {
     pub fn damage_rows(&mut self, rows: &mut Vec<u32>, other: &[u32]) {
         let count = rows.len() / ROW_WIDTH;
         let at = self.random.below(count.max(1)) * ROW_WIDTH;
-        match self.random.below(10) {
+        match self.random.below(12) {
             _ if count == 0 => rows.extend(other),
-            // A number of a row: of any, then of a text, which may still be one
+            // A number of a row: of any; of a text, which may still be one; of a kind
             0..3 => {
                 let number = at + self.random.below(ROW_WIDTH);
                 rows[number] = self.other(rows[number]);
             }
             3 => {
-                let text = self.text_row(rows);
+                let text = self.row_of(Sort::Text, rows);
                 rows[text + 1] = self.other(rows[text + 1]);
             }
+            4 => {
+                let kind = self.row_of(Sort::Kind, rows);
+                rows[kind + 2] = self.random.below(12) as u32;
+            }
             // A row that is missing, or there twice
-            4 => drop(rows.drain(at..at + ROW_WIDTH)),
-            5 => {
+            5 => drop(rows.drain(at..at + ROW_WIDTH)),
+            6 => {
                 let row = rows[at..at + ROW_WIDTH].to_vec();
                 rows.splice(at..at, row);
             }
             // A text's row elsewhere, which may be in the place of another text
-            6 => {
-                let (one, two) = (self.text_row(rows), self.text_row(rows));
+            7 => {
+                let (one, two) = (self.row_of(Sort::Text, rows), self.row_of(Sort::Text, rows));
                 (0..ROW_WIDTH).for_each(|number| rows.swap(one + number, two + number));
             }
-            7 => {
-                let text = self.text_row(rows);
+            8 => {
+                let text = self.row_of(Sort::Text, rows);
                 let row: Vec<u32> = rows.drain(text..text + ROW_WIDTH).collect();
                 let to = self.random.below(count) * ROW_WIDTH;
                 rows.splice(to..to, row);
             }
             // An end that is missing, or that of other rows
-            8 => rows.truncate(self.random.below(rows.len())),
-            _ => {
+            9 => rows.truncate(self.random.below(rows.len())),
+            10 => {
                 let from = self.random.below(other.len() / ROW_WIDTH + 1) * ROW_WIDTH;
                 rows.truncate([at, rows.len()][self.random.below(2)]);
                 rows.extend(&other[from..]);
             }
+            _ => self.damage_result(rows),
         }
     }
 
-    /// Where the row of a text begins, or another if none is found.
-    fn text_row(&mut self, rows: &[u32]) -> usize {
-        let text = Sort::Text.number();
+    /// Makes another result of one that is a mapping As: another mapping, or an error.
+    fn damage_result(&mut self, rows: &mut Vec<u32>) {
+        let (tag, text) = (Sort::Tag.number(), Sort::Text.number());
+        let is_as = |rows: &[u32], at: usize| {
+            let row = |i: usize| &rows[(at + i) * ROW_WIDTH..(at + i + 1) * ROW_WIDTH];
+            [row(0)[0], row(0)[2], row(1)[0], row(1)[2], row(2)[0]] == [tag, 1, tag, 1, text]
+        };
+        let count = rows.len() / ROW_WIDTH;
+        let found: Vec<usize> = (0..count.saturating_sub(2)).filter(|&at| is_as(rows, at)).collect();
+        if found.is_empty() {
+            return;
+        }
+        let start = found[self.random.below(found.len())] * ROW_WIDTH;
+        let tags: &[u32] = [[1, 4].as_slice(), &[1, 5], &[1, 2, 4], &[2, 1], &[2, 6]][self.random.below(5)];
+        rows.splice(
+            start..start + 3 * ROW_WIDTH,
+            tags.iter().flat_map(|&value| Row::new(Sort::Tag, 0, value).numbers()),
+        );
+    }
+
+    /// Where a row of that sort begins, or another if none is found.
+    fn row_of(&mut self, sort: Sort, rows: &[u32]) -> usize {
         let start = self.random.below(rows.len() / ROW_WIDTH);
-        let found = rows.chunks_exact(ROW_WIDTH).skip(start).position(|row| row[0] == text);
+        let found = rows.chunks_exact(ROW_WIDTH).skip(start).position(|row| row[0] == sort.number());
         (start + found.unwrap_or(0)) * ROW_WIDTH
     }
 

@@ -169,7 +169,9 @@ fn main() {
     if !sections.is_empty() {
         return;
     }
-    println!("\nMilliseconds. The share: of the speed of copying and of the faster check, which is to be 0.5 or more.\n");
+    println!(
+        "\nMilliseconds. The share: of the speed of copying and of the faster check, which is to be 0.5 or more.\n"
+    );
     println!(
         "{:32} {:>9} {:>8} {:>8} {:>8} {:>8} {:>8} {:>8}",
         "a record of", "rows", "write", "copy", "check", "std's", "rows x 2", "share"

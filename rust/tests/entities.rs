@@ -191,10 +191,15 @@ fn not_one_entity() {
         }
     }
     // Kinds that are unknown, or of another entity.
-    for kind in [0, 2, 3, 4, 5, 6, 7, 8, 9, 10, 257, u32::MAX] {
-        let mut rows = SCHEMA;
-        rows[0].2 = kind;
-        both(&table(&rows));
+    let entities: [Rows; 2] = [&SCHEMA, &TRIGGER];
+    for entity in entities {
+        for kind in (0..=12).chain([257, 265, u32::MAX]) {
+            let mut rows = entity.to_vec();
+            rows[0].2 = kind;
+            if rows != entity {
+                both(&table(&rows));
+            }
+        }
     }
     // Numbers that are no whole row, and rows of 0.
     let rows = table(&[&SCHEMA[..], &SCHEMA].concat());

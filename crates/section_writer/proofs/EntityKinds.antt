@@ -94,13 +94,13 @@ not-kind flag-sort e = let z : _≡_ {A = ℕ} 0 1 = cc in omega arith
 not-kind number-sort e = let z : _≡_ {A = ℕ} 0 1 = cc in omega arith
 not-kind count e = let z : _≡_ {A = ℕ} 0 1 = cc in omega arith
 
-no-kind : {L : Layout} → Kindless L → (v : Value L) → Each NoKind (leaves L v)
-no-kind none v = tt
-no-kind (leaf o) n = (not-kind o, tt)
-no-kind a-text t = (tt, tt)
-no-kind (both {A} {B} h k) v = each-join NoKind (leaves A (v .0)) (leaves B (v .1)) (no-kind h (v .0)) (no-kind k (v .1))
-no-kind (cases {A = A} {B = B} o h k) v = (not-kind o, each-join NoKind (leaves A (v .1)) (leaves (B (v .0)) (v .2)) (no-kind h (v .1)) (no-kind (k (v .0)) (v .2)))
-no-kind (checked h) v = no-kind h v
+kindless-leaves : {L : Layout} → Kindless L → (v : Value L) → Each NoKind (leaves L v)
+kindless-leaves none v = tt
+kindless-leaves (leaf o) n = (not-kind o, tt)
+kindless-leaves a-text t = (tt, tt)
+kindless-leaves (both {A} {B} h k) v = each-join NoKind (leaves A (v .0)) (leaves B (v .1)) (kindless-leaves h (v .0)) (kindless-leaves k (v .1))
+kindless-leaves (cases {A = A} {B = B} o h k) v = (not-kind o, each-join NoKind (leaves A (v .1)) (leaves (B (v .0)) (v .2)) (kindless-leaves h (v .1)) (kindless-leaves (k (v .0)) (v .2)))
+kindless-leaves (checked h) v = kindless-leaves h v
 
 along-of : (ls : List Leaf) (i : ℕ) → Each NoKind ls → Along (λ k x. NoKind x) i ls
 along-of [] i h = tt
@@ -110,4 +110,4 @@ pub kind-first : (v : Value Entity) → KindFirst (leaves Entity v)
 unfolding Entity
 kind-first v =
     let others = leaves (follows entityKinds (v .0)) (v .2) in
-    record { kind = v .0; others = others; first = refl; none = along-of others 1 (no-kind (in-follows entities (v .0)) (v .2)) }
+    record { kind = v .0; others = others; first = refl; none = along-of others 1 (kindless-leaves (in-follows entities (v .0)) (v .2)) }

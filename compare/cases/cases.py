@@ -2,9 +2,10 @@
 """Writes the cases of the crate cases: its stdin, and its stdout with the counts and the tally.
 
 Run it after a change. It takes no arguments, and prints how many cases of each letter there are. The sources are the cases below,
-with answers by the rules of docs/FORMAT.md, and three files beside this script, whose lines README.md explains:
+with answers by the rules of docs/FORMAT.md, and four files beside this script, whose lines README.md explains:
 
 - model.txt has answers of a model of the format that was written apart from this project and compared with the published Rust;
+- entities.txt has answers of the same model to the writing of payloads and sections;
 - sample.txt has the published Rust's own answers, as `compare/run --sample 2000 --seed 3629` prints them;
 - rfc3629.txt has byte strings and whether they are UTF-8, as rfc3629.py writes them.
 
@@ -17,7 +18,7 @@ Each case is taken once, and from some of them others are made:
   A section that is refused has one with none. If a section's length is a multiple of ten, there is one more: with the most work
   that the crate lends, or with five numbers if the section is refused.
 - Each writing that is accepted is followed by the same with a destination of just the length, and with one of a byte less, which
-  17 refuses. Each writing but one that 17 refuses is also measured (V, v), with no destination.
+  17 refuses. Each writing but one that 17 refuses is also measured (V, v, Y, y), with no destination.
 
 In stdin a case has its own length before it, a part stands as its bytes, a table to be written stands after the destination's size
 and the count of its numbers, the destination ends the answer after a refusal too, and = stands for the bytes of the case before.
@@ -26,13 +27,13 @@ from collections import Counter
 from pathlib import Path
 
 HERE = Path(__file__).resolve().parent
-ANSWERED = ("model.txt", "sample.txt")
+ANSWERED = ("model.txt", "entities.txt", "sample.txt")
 CRATE = HERE.parents[1] / "crates" / "cases"
 
 READINGS = ("S", "P", "M", "G")  # a section; one payload, one metadata record, one mapping, each alone
 PARTS = ("T", "N", "Q")  # a row's text, the SQL name from a row, the SQL text of a mapping
-WRITINGS = ("W", "w", "E", "e")  # a metadata record, one mapping, one entity as a payload, a section of entities
-MEASURINGS = {"W": "V", "w": "v", "E": "L", "e": "l"}  # the same, measured
+WRITINGS = ("W", "w", "E", "e")  # a metadata record, one mapping, one payload, a section
+MEASURINGS = {"W": "V", "w": "v", "E": "Y", "e": "y"}  # the same, measured
 # R is the path report; O is a section as objects; U is the text check
 LETTERS = READINGS + PARTS + ("R",) + WRITINGS + tuple(MEASURINGS.values()) + ("O", "U")
 LENGTH_DIGITS = 5
@@ -126,12 +127,40 @@ RETURNS_TABLE = "3,0,0 2,0,2 2,0,1 2,0,1 2,0,3"
 LONG = RETURNS_TABLE + " 5,0,1024" + " 2,0,1 6,0,16379" * 1023 + " 2,0,1"
 LONG_TEXT = b"a" * 16379
 
-# The rows of a schema with empty texts, and of an enum with 1024 variants, up to the last one's text, and after it. If that has
-# 16349 bytes, the payload has 16,777,216; a section has four more
-SCHEMA = "1,0,1 6,0,0 6,0,0 6,0,0 4,0,0"
-LONG_ENUM = "1,0,5 6,0,0 6,0,0 4,0,0 6,0,0 6,0,0 6,0,0 5,0,1024" + " 6,0,16380" * 1023
-LONG_ENUM_END = " 3,0,0 3,0,0"
-LONG_VARIANT = b"a" * 16380
+# The rows of a schema (FORMAT.md, Worked cases) and of a trigger, and their payloads
+SCHEMA = "1,4,1 6,0,0 6,0,0 6,0,0 4,17,0"
+SCHEMA_BYTES = "01" + "00" * 16
+TRIGGER = "1,0,9 6,0,1 6,2,1 4,9,258 6,1,2 6,3,0 3,0,1 3,0,1 6,0,3"
+TRIGGER_BYTES = "09" + "0100000061" + "0100000063" + "02010000" + "020000006263" + "00000000" + "0101" + "03000000616263"
+
+# The rows of custom SQL up to the name and the type_ident of one declaration, of kind 1 or 2
+DECLARES = "1,0,2 6,0,0 6,0,0 6,0,0 6,0,0 4,0,0 6,0,0 3,0,0 3,0,0 5,0,0 5,0,1"
+DECLARES_TYPE = DECLARES + " 2,0,1 6,0,0 6,0,0"
+DECLARES_ENUM = DECLARES + " 2,0,2 6,0,0 6,0,0"
+
+# The rows of an enum with 1025 variants, up to the last one's text, and the flags after it. If that text has 989 bytes, the
+# payload has 16,777,216
+LONG_ENUM = "1,0,5 6,0,0 6,0,0 4,0,0 6,0,0 6,0,0 6,0,0 5,0,1025" + " 6,0,16379" * 1024
+NO_TO_SQL = " 3,0,0 3,0,0"
+
+
+def long_section(length, count=342):
+    """The rows of schemas whose section has that length. Each has 21 bytes beside its three texts, the length of its entry included."""
+    texts = 3 * count
+    least, longer = divmod(length - 21 * count, texts)
+    sizes = [least + (number < longer) for number in range(texts)]
+    assert max(sizes) <= len(LONG_TEXT)
+    rows = ("1,0,1 6,0,%d 6,0,%d 6,0,%d 4,0,0" % tuple(sizes[at : at + 3]) for at in range(0, texts, 3))
+    return " ".join(rows)
+
+
+def entry(payload):
+    return four(len(payload) // 2).hex() + payload
+
+
+def four(number):
+    return number.to_bytes(4, "little")
+
 
 # Writings: letter, table, lent text, and what is written; the destination has three bytes more
 ADDED_WRITES = [
@@ -154,11 +183,16 @@ ADDED_WRITES = [
     # Unused numbers
     ("w", "2,0,3 3,0,0 4,0,7 3,0,0 4,0,4294967295", b"", "03000700000000ffffffff"),
     ("w", "2,0,2 2,0,3 3,0,0 4,0,9 3,0,1 4,0,256", b"", "020300090000000100010000"),
-    # Entities (FORMAT.md, Worked cases); two of them, with other offsets and with texts that are lent in another order
-    ("E", SCHEMA, b"", "01" + "00" * 16),
-    ("e", SCHEMA, b"", "1100000001" + "00" * 16),
-    ("E", "1,7,1 6,1,1 6,0,1 6,0,2 4,7,258", b"ab", "01" + "0100000062" + "0100000061" + "020000006162" + "02010000"),
-    ("e", SCHEMA + " 1,7,1 6,1,1 6,0,1 6,0,2 4,7,258", b"ab", "1100000001" + "00" * 16 + "15000000" + "01" + "0100000062" + "0100000061" + "020000006162" + "02010000"),
+    # Payloads and sections
+    ("E", SCHEMA, b"", SCHEMA_BYTES),
+    ("e", SCHEMA, b"", entry(SCHEMA_BYTES)),
+    ("E", TRIGGER, b"abc", TRIGGER_BYTES),
+    ("e", " ".join([SCHEMA, TRIGGER, SCHEMA]), b"abc", entry(SCHEMA_BYTES) + entry(TRIGGER_BYTES) + entry(SCHEMA_BYTES)),
+    ("e", " ".join([TRIGGER, TRIGGER]), b"abc", entry(TRIGGER_BYTES) * 2),
+    # Declarations As and Numeric, and of a function
+    ("E", DECLARES_TYPE + " 2,0,1 2,0,1 6,0,1", b"a", DECLARED + "01010100000061"),
+    ("E", DECLARES_TYPE + " 2,0,1 2,0,3 3,0,0 4,0,7 3,0,0 4,0,4294967295", b"", DECLARED + "0103000700000000ffffffff"),
+    ("E", DECLARES + " 2,0,3 6,0,1", b"a", CUSTOM_SQL + "030100000061"),
 ]
 
 # Writings that are refused: letter, table, lent text, the destination's size, and the number
@@ -227,25 +261,48 @@ ADDED_REFUSED_WRITES = [
     ("W", LONG + " 6,0,16371", LONG_TEXT, 9, 16),
     ("W", LONG + " 6,0,16370", LONG_TEXT, 9, 17),
     ("W", LONG + " 6,0,16380", LONG_TEXT, 9, 15),
-    ("E", LONG_ENUM + " 6,0,16350" + LONG_ENUM_END, LONG_VARIANT, 9, 16),
-    ("E", LONG_ENUM + " 6,0,16349" + LONG_ENUM_END, LONG_VARIANT, 9, 17),
-    ("e", LONG_ENUM + " 6,0,16346" + LONG_ENUM_END, LONG_VARIANT, 9, 16),
-    ("e", LONG_ENUM + " 6,0,16345" + LONG_ENUM_END, LONG_VARIANT, 9, 17),
-    ("e", SCHEMA + " " + LONG_ENUM + " 6,0,16325" + LONG_ENUM_END, LONG_VARIANT, 9, 16),
-    ("e", SCHEMA + " " + LONG_ENUM + " 6,0,16324" + LONG_ENUM_END, LONG_VARIANT, 9, 17),
-    # Entities: no rows; two for a payload; none, a part of one, or other rows after the first
+    ("E", LONG_ENUM + " 6,0,990" + NO_TO_SQL, LONG_TEXT, 9, 16),
+    ("E", LONG_ENUM + " 6,0,989" + NO_TO_SQL, LONG_TEXT, 9, 17),
+    # The lengths of a section's entries count too
+    ("e", LONG_ENUM + " 6,0,989" + NO_TO_SQL, LONG_TEXT, 9, 16),
+    ("e", LONG_ENUM + " 6,0,986" + NO_TO_SQL, LONG_TEXT, 9, 16),
+    ("e", LONG_ENUM + " 6,0,985" + NO_TO_SQL, LONG_TEXT, 9, 17),
+    ("e", long_section(16777217), LONG_TEXT, 9, 16),
+    ("e", long_section(16777216), LONG_TEXT, 9, 17),
+    # Rows of no entity, of more than one, and of a record or a mapping
     ("E", "", b"", 9, 14),
     ("e", "", b"", 9, 14),
     ("E", SCHEMA + " " + SCHEMA, b"", 99, 14),
+    ("E", SCHEMA + " 0,0,0", b"", 99, 14),
     ("e", SCHEMA + " 0,0,0", b"", 99, 14),
-    ("e", SCHEMA + " " + SCHEMA[:-6], b"", 99, 14),
-    ("e", SCHEMA + " 2,0,1 6,0,0 6,0,0 6,0,0 4,0,0", b"", 99, 14),
-    ("e", SCHEMA + " 1,0,0 6,0,0 6,0,0 6,0,0 4,0,0", b"", 99, 14),
-    ("E", "1,0,10 6,0,0 6,0,0 6,0,0 4,0,0", b"", 99, 14),
-    ("E", "1,0,257 6,0,0 6,0,0 6,0,0 4,0,0", b"", 99, 14),
-    # A bad text in the first of two, and one before rows that are wrong
-    ("e", "1,0,1 6,0,1 6,0,0 6,0,0 4,0,0 " + SCHEMA, b"", 99, 15),
-    ("e", "1,0,1 6,0,1 6,0,0 6,0,0 4,0,0 " + SCHEMA + " 0,0,0", b"", 99, 14),
+    ("e", SCHEMA + " 0", b"", 99, 14),
+    ("e", SCHEMA + " 0,0", b"", 99, 14),
+    ("e", SCHEMA + " 1,0,1", b"", 99, 14),
+    ("e", SCHEMA + " " + SCHEMA[6:], b"", 99, 14),
+    ("e", SCHEMA[6:] + " " + SCHEMA, b"", 99, 14),
+    ("E", RECORD, b"", 99, 14),
+    ("e", RECORD, b"", 99, 14),
+    ("W", SCHEMA, b"", 99, 14),
+    # Kinds that are unknown, and the sentinel's
+    ("E", "1,0,10" + SCHEMA[5:], b"", 99, 14),
+    ("E", "1,0,257" + SCHEMA[5:], b"", 99, 14),
+    ("e", "1,0,0" + SCHEMA[5:], b"", 99, 14),
+    ("e", "1,0,0 6,0,4", b"pgrx", 99, 14),
+    ("E", "2,0,1" + SCHEMA[5:], b"", 99, 14),
+    # Declarations with an error, and with another mapping
+    ("E", DECLARES_TYPE + " 2,0,2 2,0,1", b"", 99, 14),
+    ("E", DECLARES_TYPE + " 2,0,2 2,0,7 6,0,0", b"", 99, 14),
+    ("E", DECLARES_TYPE + " 2,0,1 2,0,4", b"", 99, 14),
+    ("E", DECLARES_TYPE + " 2,0,1 2,0,5", b"", 99, 14),
+    ("E", DECLARES_TYPE + " 2,0,1 2,0,2 2,0,1 6,0,0", b"", 99, 14),
+    ("E", DECLARES_ENUM + " 2,0,1 2,0,4", b"", 99, 14),
+    ("e", DECLARES_ENUM + " 2,0,2 2,0,1", b"", 99, 14),
+    ("E", DECLARES + " 2,0,4 6,0,0", b"", 99, 14),
+    # Texts of the second entity, and 14 after a bad text
+    ("e", SCHEMA + " " + TRIGGER, b"ab", 99, 15),
+    ("e", TRIGGER + " " + SCHEMA, b"ab\xff", 99, 15),
+    ("e", TRIGGER + " 1,0,1", b"ab", 99, 14),
+    ("e", DECLARES_TYPE.replace("6,0,0", "6,9,0") + " 2,0,1 2,0,4", b"", 99, 14),
 ]
 
 
@@ -348,10 +405,6 @@ def hexadecimal(octets):
 
 def octets_of(field):
     return bytes.fromhex(field.replace("-", ""))
-
-
-def four(number):
-    return number.to_bytes(4, "little")
 
 
 def section(items, padding):

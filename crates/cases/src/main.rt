@@ -12,10 +12,12 @@
 //   the other: a text as its bytes, any other field as a number of four bytes. Or it is `refuse`.
 // - R is the path report. The number is that of the numbers lent as work. The answer is 0, 0 and how many pairs there are; or a
 //   refusal's number and place.
-// - W is the writing of a metadata record, w that of one mapping, E that of one entity as a payload, and e that of a section of
-//   entities. The numbers are the destination's size, how many numbers the table has, and these; the bytes are the lent text. The
-//   answer is 0, 0 and the length, or a refusal's number and place; then the whole destination.
-// - V, v, L and l are the measuring of the same. They stand as W, w, E and e, with a destination of 0 bytes.
+// - W is the writing of a metadata record, and w that of one mapping. The numbers are the destination's size, how many numbers
+//   the table has, and these; the bytes are the lent text. The answer is 0, 0 and the length, or a refusal's number and place;
+//   then the whole destination.
+// - V is the measuring of a metadata record, and v that of one mapping. They stand as W and w, with a destination of 0 bytes.
+// - E and Y are the writing and the measuring of one entity as a payload, e and y those of entities as a section. They stand as W
+//   and V.
 // - U is the text check. Its number is 0. The answer is `yes` or `no`, whether the bytes are UTF-8; or `parts`, if some walk over
 //   them in two parts tells otherwise.
 //
@@ -433,8 +435,8 @@ fn answer_other(
         b'Q' => sql_text(numbers, s, out),
         b'O' => objects(s, out),
         b'R' => path_report(numbers, s, out),
-        b'W' | b'w' | b'E' | b'e' => write(letter, numbers, s, out),
-        b'V' | b'v' | b'L' | b'l' => write(letter, numbers, s, out),
+        b'W' | b'w' | b'V' | b'v' => write(letter, numbers, s, out),
+        b'E' | b'e' | b'Y' | b'y' => write(letter, numbers, s, out),
         b'U' => text_check(s, out),
         _ => bad_case(out),
     }
@@ -717,9 +719,15 @@ fn encode(letter: u8, rows: &[u32], text: &[u8], dest: &mut [u8]) -> Length {
         b'w' => writer::encode_sql_mapping(rows, text, dest),
         b'E' => entity_writer::encode_entity(rows, text, dest),
         b'e' => section_writer::encode_entities(rows, text, dest),
+        _ => measure(letter, rows, text),
+    }
+}
+
+fn measure(letter: u8, rows: &[u32], text: &[u8]) -> Length {
+    match letter {
         b'V' => writer::function_metadata_type_len(rows, text),
         b'v' => writer::sql_mapping_len(rows, text),
-        b'L' => entity_writer::entity_len(rows, text),
+        b'Y' => entity_writer::entity_len(rows, text),
         _ => section_writer::entities_len(rows, text),
     }
 }

@@ -1,18 +1,15 @@
--- The parts, one after the other.
+-- One, after an optional text, as a list of one.
 use Rattle.layout.specs.Entities.{AggregateType}
 use Rattle.layout.specs.Machine.{drive}
 use Rattle.used_writer.proofs.aggregate_type.Statement.{statement}
 use Rattle.used_writer.proofs.aggregate_type.Tie as tie
 
-option-str-requires : tie.Need-option-str-requires
-option-str-requires c κs = tt
-
-used-type-requires : tie.Need-used-type-requires
-used-type-requires c κs = tt
+used-types-requires : tie.Need-used-types-requires
+used-types-requires c κs = tt
 
 returns : tie.Need-returns
 unfolding drive AggregateType
-returns c = rw (c .used-type .ensures, c .before .option-str .ensures)
+returns c = c .used-types .ensures
 
 pub aggregate-type-spec : {M : Type 1} → statement M
-aggregate-type-spec = tie.close (tie.spec option-str-requires used-type-requires returns)
+aggregate-type-spec = tie.close (tie.spec used-types-requires returns)

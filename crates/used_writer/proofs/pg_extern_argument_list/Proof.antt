@@ -1,59 +1,18 @@
--- i items are taken; the others are still to come.
-use Prim.Native.Nat.{_-_}
-use native.Mathlib.Nat.{sub-zero}
-use native.Mathlib.Omega.{arith}
-use mathlib.Core.Path.{_≡_}
+-- A count, then that many.
 use Rattle.layout.specs.Entities.{PgExternArgument, PgExternArgumentList}
-use Rattle.layout.specs.Forms.{times}
-use Rattle.layout.proofs.Forms.{list-in, loop-on, loop-end}
-use Rattle.entry_writer.specs.Run.{consume}
-use Rattle.entry_writer.proofs.Still.{loop-refused}
+use Rattle.layout.proofs.Forms.{list-in}
 use Rattle.used_writer.proofs.pg_extern_argument_list.Statement.{statement}
 use Rattle.used_writer.proofs.pg_extern_argument_list.Tie as tie
 
-abbrev Inv-loop : tie.InvT-loop
-Inv-loop rows text w₀ count i₀ w i = consume (times count PgExternArgument) rows text w₀ ≡ consume (times (count - i) PgExternArgument) rows text w
-
-abbrev μ-loop : tie.MeasureT-loop
-μ-loop rows text w₀ count i₀ w i = count - i
-
-count-requires : tie.Need-count-requires Inv-loop μ-loop
+count-requires : tie.Need-count-requires
 count-requires c κs = tt
 
-loop-holds : tie.Need-loop-holds Inv-loop μ-loop
-loop-holds c = simp sub-zero
+used-types-requires : tie.Need-used-types-requires
+used-types-requires c κs = tt
 
-returns : tie.Need-returns Inv-loop μ-loop
-unfolding PgExternArgumentList
-returns c = list-in _ _ _ _ _ (c .before .before .before .before .count .ensures) (loop-refused _ _ _ _ _ (c .before .before .before .loop .inv) (c .if1 .taken))
-
-pg-extern-argument-requires : tie.Need-pg-extern-argument-requires Inv-loop μ-loop
-pg-extern-argument-requires c κs = tt
-
-add-i : tie.Need-add-i Inv-loop μ-loop
-add-i c = omega arith
-
-loop-less : tie.Need-loop-less Inv-loop μ-loop
-loop-less c = omega arith
-
-loop-again : tie.Need-loop-again Inv-loop μ-loop
-loop-again c = loop-on _ _ PgExternArgument _ _ _ _ (c .before .before .before .before .loop .inv) (c .before .before .before .loop-test .taken) (c .pg-extern-argument .ensures)
-
-returns-2 : tie.Need-returns-2 Inv-loop μ-loop
-unfolding PgExternArgumentList
-returns-2 c = list-in _ _ _ _ _ (c .before .before .count .ensures) (loop-end _ _ PgExternArgument _ _ _ (c .before .loop .inv) (c .loop-test .left))
+returns : tie.Need-returns
+unfolding PgExternArgument PgExternArgumentList
+returns c = list-in PgExternArgument _ _ _ _ (c .before .count .ensures) (c .used-types .ensures)
 
 pub pg-extern-argument-list-spec : {M : Type 1} → statement M
-pg-extern-argument-list-spec =
-    tie.close
-    (tie.spec
-    Inv-loop
-    μ-loop
-    count-requires
-    loop-holds
-    returns
-    pg-extern-argument-requires
-    add-i
-    loop-less
-    loop-again
-    returns-2)
+pg-extern-argument-list-spec = tie.close (tie.spec count-requires used-types-requires returns)

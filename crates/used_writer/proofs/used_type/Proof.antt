@@ -1,46 +1,14 @@
--- The parts, one after the other.
-use Rattle.layout.specs.Entities.{UsedType}
+-- One, without a name, as a list of one.
 use Rattle.layout.specs.Machine.{drive}
 use Rattle.used_writer.proofs.used_type.Statement.{statement}
 use Rattle.used_writer.proofs.used_type.Tie as tie
 
-str-requires : tie.Need-str-requires
-str-requires c κs = tt
-
-str-requires-2 : tie.Need-str-requires-2
-str-requires-2 c κs = tt
-
-option-str-requires : tie.Need-option-str-requires
-option-str-requires c κs = tt
-
-bool-requires : tie.Need-bool-requires
-bool-requires c κs = tt
-
-option-str-requires-2 : tie.Need-option-str-requires-2
-option-str-requires-2 c κs = tt
-
-bool-requires-2 : tie.Need-bool-requires-2
-bool-requires-2 c κs = tt
-
-function-metadata-type-requires : tie.Need-function-metadata-type-requires
-function-metadata-type-requires c κs = tt
+used-types-requires : tie.Need-used-types-requires
+used-types-requires c κs = tt
 
 returns : tie.Need-returns
-unfolding drive UsedType
-returns c =
-    let str = c .before .before .before .before .before .before .str in
-    let str2 = c .before .before .before .before .before .str2 in
-    rw (c .function-metadata-type .ensures, c .before .bool2 .ensures, c .before .before .option-str2 .ensures, c .before .before .before .bool .ensures, c .before .before .before .before .option-str .ensures, str2 .ensures, str .ensures)
+unfolding drive
+returns c = c .used-types .ensures
 
 pub used-type-spec : {M : Type 1} → statement M
-used-type-spec =
-    tie.close
-    (tie.spec
-    str-requires
-    str-requires-2
-    option-str-requires
-    bool-requires
-    option-str-requires-2
-    bool-requires-2
-    function-metadata-type-requires
-    returns)
+used-type-spec = tie.close (tie.spec used-types-requires returns)

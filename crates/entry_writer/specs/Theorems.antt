@@ -15,7 +15,7 @@ use Rattle.entry_writer.specs.Writing.{measured, write, lengthIn, writte
 use Rattle.entry_writer.specs.Refusals.{alone, Spells, GoodTexts, WriteRefusal, Writable, ExactLength, ExactWriting}
 
 -- What is written is what the value spelled by the rows derives, if its texts are good, its length is at most the limit and the
--- destination has space; and every such value is written: `write-exact` in Spelled.antt
+-- destination has space; and every such value is written: `write-exact` in Exact.antt
 abbrev pub Write-exact : Type 0
 Write-exact =
     (L : Layout) (rows text : List ℕ) (size : ℕ) (b : List ℕ) (n : ℕ)
@@ -31,7 +31,7 @@ Spells-proper =
 abbrev pub Spells-unique : Type 0
 Spells-unique = (L : Layout) (rows text : List ℕ) (v w : Value L) → Spells (alone L) rows text v → Spells (alone L) rows text w → v ≡ w
 
--- Each refusal is answered exactly under its condition: `write-refused` in Spelled.antt
+-- Each refusal is answered exactly under its condition: `write-refused` in Exact.antt
 abbrev pub Write-refused : Type 0
 Write-refused =
     (L : Layout) (rows text : List ℕ) (size n p : ℕ) → (write L rows text size ≡ refuse n p) ↔ (WriteRefusal (alone L) rows text size n × (p ≡ 0))

@@ -5,7 +5,7 @@ mod sections;
 
 use common::{median, Random};
 use pgrx_sql_entity_graph::section::decode_entities;
-use pgrxsc::{path_pairs, read_section, Refusal, LIMIT, ROW_WIDTH};
+use pgrxsc::{path_repeats, read_section, Refusal, LIMIT, ROW_WIDTH};
 use sections::{entries, function, schema, Entry, MIB};
 use std::hint::black_box;
 use std::time::Instant;
@@ -115,7 +115,7 @@ fn report(name: &str, count: usize, pairs: u64, entry: impl Fn(usize) -> Entry) 
     (0..count).for_each(|i| entry(i).add_to(&mut section));
     assert!(section.len() <= LIMIT, "{name}: {} bytes", section.len());
     let report = || {
-        let (time, answer) = milliseconds(|| path_pairs(black_box(&section)));
+        let (time, answer) = milliseconds(|| path_repeats(black_box(&section)));
         assert_eq!(answer, Ok(pairs), "{name}: pairs");
         time
     };

@@ -14,6 +14,8 @@ use pgrx_sql_entity_graph::SqlGraphEntity;
 use pgrxsc::{Refusal, Row, Sort, LIMIT, ROW_WIDTH, SQL_TEXT_SIZE};
 use std::collections::{BTreeMap, HashMap};
 use std::fmt::Debug;
+use std::hash::Hash;
+use std::mem::{discriminant, Discriminant};
 use std::panic::{catch_unwind, AssertUnwindSafe};
 
 /// The largest count in the domain, since the Rust reserves memory for a count before it reads an item.
@@ -53,7 +55,8 @@ pub struct Comparison {
     pub altered: u64,
     pub short_tables: u64,
     pub path_reports: u64,
-    pub path_pairs: u64,
+    pub path_repeats: u64,
+    pub shared_paths: u64,
     pub calls: Calls,
     /// Texts, names and SQL texts of any row and at any offset.
     pub any_texts: u64,
@@ -88,16 +91,23 @@ pub fn oracle(what: What, bytes: &[u8]) -> Option<Objects<'_>> {
     reader.finish().ok().map(|()| objects)
 }
 
-/// The pairs of entities with the same full_path.
-fn pairs(entities: &[SqlGraphEntity]) -> u64 {
+/// How many pairs of some things are equal.
+fn pairs<T: Eq + Hash>(things: impl Iterator<Item = T>) -> u64 {
     let mut seen = HashMap::new();
     let mut pairs = 0;
-    for path in entities.iter().filter_map(flatten::full_path) {
-        let before = seen.entry(path).or_insert(0);
+    for thing in things {
+        let before = seen.entry(thing).or_insert(0);
         pairs += *before;
         *before += 1;
     }
     pairs
+}
+
+/// The kind of each entity that has a full_path, and that path.
+fn kinds_and_paths<'a>(
+    entities: &'a [SqlGraphEntity],
+) -> impl Iterator<Item = (Discriminant<SqlGraphEntity<'a>>, &'a str)> {
+    entities.iter().filter_map(|entity| flatten::full_path(entity).map(|path| (discriminant(entity), path)))
 }
 
 impl Comparison {
@@ -242,15 +252,19 @@ impl Comparison {
 
     /// Compares the path report with the Rust's objects, and its refusal with that of the reading.
     fn compare_paths(&mut self, bytes: &[u8], answer: Counts, theirs: &Option<Option<Objects>>) -> Result<(), String> {
-        let report = pgrxsc::path_pairs(bytes);
+        let report = pgrxsc::path_repeats(bytes);
         let expected = match (theirs, answer) {
             (_, Err(refusal)) => Err(refusal),
-            (Some(Some(Objects::Entities(entities))), _) => Ok(pairs(entities)),
+            (Some(Some(Objects::Entities(entities))), _) => {
+                let repeats = pairs(kinds_and_paths(entities));
+                self.shared_paths += pairs(kinds_and_paths(entities).map(|(_, path)| path)) - repeats;
+                Ok(repeats)
+            }
             // Outside the domain the Rust has no objects
             _ => Ok(report.unwrap_or(0)),
         };
         self.path_reports += 1;
-        self.path_pairs += expected.unwrap_or(0);
+        self.path_repeats += expected.unwrap_or(0);
         if report != expected {
             return Err(format!("the path report is {report:?}, by the Rust's objects {expected:?}"));
         }

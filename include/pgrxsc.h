@@ -78,13 +78,13 @@ extern "C" {
 #endif
 
 /*
- * The version of this header. It grows by one whenever a function, a row or a refusal changes its shape or its meaning, as when
- * a row gets another number. Header and archive must be of the same version; if they are not, the program may still link. So
+ * The version of this header. It grows by one whenever a function, a row or a refusal changes its shape or its meaning or is
+ * gone, as when a row gets another number. Header and archive must be of the same version; if they are not, the program may still link. So
  * compare the two before the first other call:
  *
  *   if (pgrxsc_version() != PGRXSC_VERSION) ...
  */
-#define PGRXSC_VERSION 1
+#define PGRXSC_VERSION 2
 
 /* Returns the version of the archive: PGRXSC_VERSION of the header that belongs to it. */
 uint32_t pgrxsc_version(void);
@@ -216,8 +216,9 @@ void pgrxsc_payload_len(const uint32_t *rows, size_t rows_len, const uint8_t *te
 void pgrxsc_section_len(const uint32_t *rows, size_t rows_len, const uint8_t *text, size_t text_len, uint64_t answer[4]);
 
 /*
- * Returns the number of unordered pairs of entities of a section with the same full_path bytes; schemas have none and are in no
- * pair. After a refusal it is 0. a and b are 0. Refusals 1 to 12.
+ * Returns the number of unordered pairs of entities of a section that repeat a path: they are of one kind, and their full_path
+ * bytes agree. So a type and the ordering and hashing that it derives are no pairs, although they share a path; and schemas have
+ * no full_path. After a refusal it is 0. a and b are 0. Refusals 1 to 12.
  *
  * `work` is room to work in: any number of 32-bit numbers, none included. Result and answer do not depend on it, and what it
  * holds afterwards is left free; it decides what the call costs. Lend a number for each entity that is no schema: len / 27 are
@@ -226,7 +227,7 @@ void pgrxsc_section_len(const uint32_t *rows, size_t rows_len, const uint8_t *te
  * grows with the square of n: about a second for 10,000 entities, a minute and a half for 100,000, and the better part of an
  * hour for 600,000.
  */
-uint64_t pgrxsc_path_pairs(const uint8_t *bytes, size_t len, uint32_t *work, size_t work_len, uint64_t answer[4]);
+uint64_t pgrxsc_path_repeats(const uint8_t *bytes, size_t len, uint32_t *work, size_t work_len, uint64_t answer[4]);
 
 /* Whether the bytes are UTF-8 by RFC 3629. */
 bool pgrxsc_is_text(const uint8_t *bytes, size_t len);

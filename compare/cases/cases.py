@@ -2,10 +2,10 @@
 """Writes the cases of the crate cases: its stdin, and its stdout with the counts and the tally.
 
 Run it after a change. It takes no arguments, and prints how many cases of each letter there are. The sources are the cases below,
-with answers by the rules of docs/FORMAT.md, and four files beside this script, whose lines README.md explains:
+with answers by the rules of docs/FORMAT.md, and five files beside this script, whose lines README.md explains:
 
 - model.txt has answers of a model of the format that was written apart from this project and compared with the published Rust;
-- entities.txt has answers of the same model to the writing of payloads and sections;
+- entities.txt has answers of the same model to the writing of payloads and sections, and paths.txt its path reports;
 - sample.txt has the published Rust's own answers, as `compare/run --sample 2000 --seed 3629` prints them;
 - rfc3629.txt has byte strings and whether they are UTF-8, as rfc3629.py writes them.
 
@@ -14,9 +14,10 @@ Each case is taken once, and from some of them others are made:
 - Each reading that is accepted is followed by the same with a table of just as many rows, and with one of a row less, which 13
   refuses.
 - For each section there are cases of the path report (R), which differ in how many numbers of work are lent: as many as there are
-  entities, as many as there are paths, one less, and none. Their pairs are counted here on the rows of the section's answer.
-  A section that is refused has one with none. If a section's length is a multiple of ten, there is one more: with the most work
-  that the crate lends, or with five numbers if the section is refused.
+  entities, as many as there are paths, one less, and none. Their pairs are counted here, by kind and path, on the rows of the
+  section's answer. A section that is refused has one with none. If a section's length is a multiple of ten, there is one more:
+  with the most work that the crate lends, or with five numbers if the section is refused.
+- A path report whose answer is given is made with no work, and with as much as is always enough.
 - Each writing that is accepted is followed by the same with a destination of just the length, and with one of a byte less, which
   17 refuses. Each writing but one that 17 refuses is also measured (V, v, Y, y), with no destination.
 
@@ -27,7 +28,7 @@ from collections import Counter
 from pathlib import Path
 
 HERE = Path(__file__).resolve().parent
-ANSWERED = ("model.txt", "entities.txt", "sample.txt")
+ANSWERED = ("model.txt", "entities.txt", "paths.txt", "sample.txt")
 CRATE = HERE.parents[1] / "crates" / "cases"
 
 READINGS = ("S", "P", "M", "G")  # a section; one payload, one metadata record, one mapping, each alone
@@ -42,6 +43,7 @@ ROW_WIDTH = 3
 MOST_WORK = MANY * ROW_WIDTH + ROW_WIDTH - 1  # numbers
 SORTS = {"kind": 1, "tag": 2, "flag": 3, "number": 4, "count": 5, "text": 6}
 FULL_PATH = {2: 3, 3: 4, 4: 5, 5: 5, 6: 4, 7: 4, 8: 1, 9: 5}  # of each kind, how many rows after the kind's; a schema has none
+LEAST_ENTRY = 27  # bytes, of an entity with a full_path
 SENTINEL = "000400000070677278"
 
 # Custom SQL with empty texts and no requirement, and the count 1 of its declarations; the next byte is at 35
@@ -336,7 +338,22 @@ def entity(kind, path, module=b"m", used=b"u"):
     return [("kind", kind), *fields[kind]]
 
 
-# Sections for the path report. None is a sentinel
+# Path reports: the entities of a section, and how many pairs repeat a path. None is a sentinel
+ADDED_REPORTS = [
+    ([entity(4, b"p"), entity(6, b"p"), entity(7, b"p")], 0),  # a type with its ord and hash
+    ([entity(5, b"p"), entity(7, b"p"), entity(6, b"p")], 0),  # an enum with its hash and ord
+    ([entity(6, b"p"), entity(7, b"p")], 0),
+    ([entity(3, b"p"), entity(3, b"p")], 1),  # two functions
+    ([entity(3, b"p"), None, entity(4, b"p"), entity(3, b"p")], 1),
+    ([entity(1, b"", b"p"), entity(1, b"", b"p")], 0),  # schemas
+    ([entity(6, b"p"), entity(7, b"p"), entity(6, b"p"), entity(7, b"p")], 2),
+    ([entity(kind, b"p") for kind in range(2, 10)], 0),
+    ([entity(kind, b"p") for kind in range(2, 10)] * 2, 8),
+    ([entity(kind, b"p") for kind in range(2, 10)] * 3, 24),
+    ([entity(kind, path) for path in (b"p", b"q") for kind in (9, 6, 9, 7, 9)], 6),
+]
+
+# Further sections for the path report
 ADDED_SECTIONS = [
     [entity(2, b"a::p"), entity(3, b"a::p"), entity(4, b"a::p")],
     [entity(6, b"p"), entity(7, b"q")],
@@ -373,8 +390,12 @@ RUNS = [
 ]
 
 
-def entities_with(paths):
-    return [entity(2 + number % 8, path) for number, path in enumerate(paths)]
+KINDS = range(2, 10)  # those with a path
+
+
+def entities_with(paths, kinds=KINDS):
+    """An entity for each path, of the kinds by turns."""
+    return [entity(kinds[number % len(kinds)], path) for number, path in enumerate(paths)]
 
 
 def sorted_sections():
@@ -383,18 +404,20 @@ def sorted_sections():
     scattered = [rising[number * 17 % len(rising)] for number in range(len(rising))]
     for paths in (rising, rising[::-1], scattered, sorted(scattered, key=len)):
         yield entities_with(paths)
+        yield entities_with(paths, [9])
+        yield entities_with(paths, [7, 6])
     # All different: in the last byte alone, each a prefix of the next, and bytes above 127 among others
     last = [b"exercise::note_%x" % number for number in range(16)]
     prefixes = [b"exercise"[:length] for length in range(9)]
     bytewise = [text.encode() for text in ("z", "\u00ff", "a", "\u0080", "\U00010000", "\u00e9", "\x00", "")]
     for paths in (last, prefixes, bytewise):
         yield entities_with(paths)
-        yield entities_with(paths[::-1])
-        yield entities_with(paths + paths[:1])
+        yield entities_with(paths[::-1], [3])
+        yield entities_with(paths + paths[:1], [4])
     # One pair, of the first and the last, among 2 to 9
     for count in range(2, 10):
-        yield entities_with([b"%d" % (number % (count - 1)) for number in range(count)])
-        yield entities_with([b"%d" % (-number % (count - 1)) for number in range(count)])
+        yield entities_with([b"%d" % (number % (count - 1)) for number in range(count)], [count])
+        yield entities_with([b"%d" % (-number % (count - 1)) for number in range(count)], [count])
     # With schemas, which have no path
     yield [entity(1, b""), entity(9, b"b"), entity(1, b""), entity(9, b"a"), entity(1, b""), entity(3, b"b"), entity(1, b"")]
 
@@ -438,6 +461,8 @@ def answered():
     for padding, items in enumerate([*ADDED_SECTIONS, *sorted_sections()]):
         octets, answer = section(items, padding)
         yield f"S {MANY} {hexadecimal(octets)} {answer}"
+    for items, pairs in ADDED_REPORTS:
+        yield f"R {hexadecimal(section(items, 0)[0])} count {pairs}"
     for letter, octets, sort, offset, value, answer in ADDED_ROWS:
         yield f"{letter} {hexadecimal(octets)} {sort} {offset} {value} {answer}"
     for numbers, text in ADDED_NUMERIC:
@@ -531,7 +556,7 @@ def path_report(line):
     octets = octets_of(field)
     works, answer = [0], " ".join(numbers)
     if verdict == "accept":
-        paths = full_paths(octets, list(map(int, numbers[2:])))
+        paths = kinds_and_paths(octets, list(map(int, numbers[2:])))
         works = [int(numbers[0]), len(paths), max(len(paths) - 1, 0), 0]
         answer = f"0 0 {sum(count * (count - 1) // 2 for count in Counter(paths).values())}"
     if len(octets) % 10 == 0:
@@ -540,15 +565,23 @@ def path_report(line):
         yield f"R {work} {field} {answer}"
 
 
-def full_paths(octets, numbers):
-    """The full_path of each entity that has one, from the rows of a section."""
+def given_report(line):
+    """The cases of a path report whose answer is given."""
+    letter, field, verdict, *numbers = line.split(" ")
+    answer = " ".join(numbers if verdict == "refuse" else ["0", "0", *numbers])
+    for work in (0, len(octets_of(field)) // LEAST_ENTRY):
+        yield f"{letter} {work} {field} {answer}"
+
+
+def kinds_and_paths(octets, numbers):
+    """The kind and the full_path of each entity that has one, from the rows of a section."""
     rows = [numbers[at : at + ROW_WIDTH] for at in range(0, len(numbers), ROW_WIDTH)]
     paths = []
     for at, (sort, _, kind) in enumerate(rows):
         if sort == SORTS["kind"] and kind in FULL_PATH:
             sort, offset, length = rows[at + FULL_PATH[kind]]
             assert sort == SORTS["text"]
-            paths.append(octets[offset : offset + length])
+            paths.append((kind, octets[offset : offset + length]))
     return paths
 
 
@@ -560,6 +593,8 @@ def cases():
             yield from reading(line)
         if letter == "S":
             yield from path_report(line)
+        if letter == "R":
+            yield from given_report(line)
         if letter in ("T", "N"):
             yield row_part(line)
         if letter == "Q":

@@ -134,7 +134,7 @@ mod archive {
             text_len: usize,
             answer: *mut u64,
         );
-        pub fn pgrxsc_path_pairs(
+        pub fn pgrxsc_path_repeats(
             bytes: *const u8,
             len: usize,
             work: *mut u32,
@@ -308,13 +308,13 @@ pub(crate) fn written_len(written: Written, rows: &[u32], text: &[u8]) -> Answer
 }
 
 /// The number of pairs is the first result; a and b are 0. The work changes neither.
-pub(crate) fn path_pairs(bytes: &[u8], work: &mut [u32]) -> (u64, Answer) {
+pub(crate) fn path_repeats(bytes: &[u8], work: &mut [u32]) -> (u64, Answer) {
     check_version();
     let mut answer = UNANSWERED;
     // SAFETY: the pointers and lengths are those of slices, the answer has four numbers, and
     // `work` and `answer` overlap nothing, being borrowed mutably.
     let pairs = unsafe {
-        archive::pgrxsc_path_pairs(
+        archive::pgrxsc_path_repeats(
             bytes.as_ptr(),
             bytes.len(),
             work.as_mut_ptr(),

@@ -31,7 +31,7 @@
 //! The rows are stored in a table of 32-bit numbers, [`ROW_WIDTH`] to a row, which the caller lends
 //! ([`read_section`]) or a [`Table`] holds. Texts are not copied: they are parts of the bytes read.
 //! Nothing is reserved for a count or a length that only stands in the section; only a [`Table`],
-//! [`path_pairs`] and a [`Builder`] reserve memory at all, by the number of bytes that they are
+//! [`path_repeats`] and a [`Builder`] reserve memory at all, by the number of bytes that they are
 //! given.
 //!
 //! # Writing
@@ -82,7 +82,7 @@ mod row;
 mod table;
 mod writing;
 
-pub use parts::{is_text, path_pairs, row_text, sql_name, sql_text};
+pub use parts::{is_text, path_repeats, row_text, sql_name, sql_text};
 pub use reading::{
     read_mapping, read_metadata, read_payload, read_section, Entities, Entity, Reading, Rows, Texts,
 };
@@ -95,12 +95,12 @@ pub use writing::{
 };
 
 /// The version of the archive that the crate works with, `PGRXSC_VERSION` in `include/pgrxsc.h`. It
-/// grows by one whenever a function, a row or a refusal changes its shape or its meaning.
+/// grows by one whenever a function, a row or a refusal changes its shape or its meaning or is gone.
 ///
 /// The first call of the archive compares it with the archive's own version, and panics if they
 /// differ. Then crate and archive are of different states of the repository: run
 /// `rt staticlib pgrxsc` again.
-pub const VERSION: u32 = 1;
+pub const VERSION: u32 = 2;
 
 /// The most bytes that are read or written: 16 MiB.
 pub const LIMIT: usize = 16_777_216;

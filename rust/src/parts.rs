@@ -78,8 +78,9 @@ pub fn sql_text<'a>(
     Ok(text_at(if in_buffer { buffer } else { bytes }, start, len))
 }
 
-/// The number of pairs of entities in a section that have the same full path. Schemas have no full
-/// path and are in no pair.
+/// The number of pairs of entities in a section that repeat a path: they are of one kind, and their
+/// full paths have the same bytes. A type and the ordering and hashing that it derives share a full
+/// path, but are of three kinds, and so no pairs. Schemas have no full path.
 ///
 /// To sort the paths it reserves four bytes for every 27 of the section, which is 2.4 MiB at most,
 /// and gives them back. So it takes n log n comparisons for n entities: about a second at most for
@@ -91,11 +92,20 @@ pub fn sql_text<'a>(
 /// table.
 ///
 /// ```
-/// assert_eq!(pgrxsc::path_pairs(&[]), Ok(0));
+/// use pgrxsc::builder::{Builder, Function, PostgresOrd, PostgresType};
+///
+/// let mut builder = Builder::new();
+/// builder.add(PostgresType { full_path: "ext::Dose", ..PostgresType::default() });
+/// builder.add(PostgresOrd { full_path: "ext::Dose", ..PostgresOrd::default() });
+/// assert_eq!(pgrxsc::path_repeats(&builder.to_section()?), Ok(0));
+/// builder.add(Function { full_path: "ext::dose", ..Function::default() });
+/// builder.add(Function { full_path: "ext::dose", ..Function::default() });
+/// assert_eq!(pgrxsc::path_repeats(&builder.to_section()?), Ok(1));
+/// # Ok::<(), pgrxsc::Refusal>(())
 /// ```
-pub fn path_pairs(bytes: &[u8]) -> Result<u64, Refusal> {
+pub fn path_repeats(bytes: &[u8]) -> Result<u64, Refusal> {
     let mut work = vec![0; work_len(bytes.len())];
-    let (pairs, answer) = ffi::path_pairs(bytes, &mut work);
+    let (pairs, answer) = ffi::path_repeats(bytes, &mut work);
     accepted(answer)?;
     Ok(pairs)
 }

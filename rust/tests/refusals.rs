@@ -4,7 +4,7 @@ mod common;
 
 use common::{custom_sql, entry, function, hex, schema};
 use pgrxsc::{
-    path_pairs, read_mapping, read_payload, read_section, Refusal, RefusalKind, Table, LIMIT,
+    path_repeats, read_mapping, read_payload, read_section, Refusal, RefusalKind, Table, LIMIT,
 };
 use std::collections::HashSet;
 use std::error::Error;
@@ -12,7 +12,7 @@ use std::error::Error;
 fn section_refusal(section: &[u8]) -> (u32, usize) {
     let refusal = Table::new().read_section(section).unwrap_err();
     // A report on paths has the same refusals.
-    assert_eq!(path_pairs(section), Err(refusal));
+    assert_eq!(path_repeats(section), Err(refusal));
     (refusal.number(), refusal.place())
 }
 

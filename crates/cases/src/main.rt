@@ -434,7 +434,7 @@ fn answer_other(
         b'N' => sql_name(numbers, s, out),
         b'Q' => sql_text(numbers, s, out),
         b'O' => objects(s, out),
-        b'R' => path_report(numbers, s, out),
+        b'R' => path_repeats(numbers, s, out),
         b'W' | b'w' | b'V' | b'v' => write(letter, numbers, s, out),
         b'E' | b'e' | b'Y' | b'y' => write(letter, numbers, s, out),
         b'U' => text_check(s, out),
@@ -616,13 +616,13 @@ fn put_four(out: &mut [u8; OUT_SIZE], at: usize, n: u32) -> usize {
 }
 
 // The path report, with as many numbers of work as the case asks for.
-fn path_report(numbers: &[u32; CASE_NUMBERS], s: &[u8], out: &mut [u8; OUT_SIZE]) -> usize {
+fn path_repeats(numbers: &[u32; CASE_NUMBERS], s: &[u8], out: &mut [u8; OUT_SIZE]) -> usize {
     let size = wide_number(numbers[0]) as usize;
     if MOST_NUMBERS < size {
         return bad_case(out);
     }
     let mut work = [FILL; MOST_NUMBERS];
-    spell_report(paths::path_report(s, &mut work[..size]), out)
+    spell_report(paths::path_repeats(s, &mut work[..size]), out)
 }
 
 fn spell_report(report: PathReport, out: &mut [u8; OUT_SIZE]) -> usize {

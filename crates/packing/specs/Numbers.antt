@@ -49,9 +49,13 @@ abbrev pub lengthNumbers : Total → List ℕ
 lengthNumbers (counted n) = 0 ∷ 0 ∷ n ∷ 0 ∷ []
 lengthNumbers (uncounted number place) = refusalNumbers number place
 
+-- A count n, or the refusal that four numbers tell
+abbrev pub totalTold : (n : ℕ) (numbers : List ℕ) → Total
+totalTold n ns = cond (eqb (getD ns 0 0) 0) (counted n) (uncounted (getD ns 0 0) (getD ns 1 0))
+
 -- The length that four numbers tell, or the refusal
 abbrev pub lengthTold : List ℕ → Total
-lengthTold ns = cond (eqb (getD ns 0 0) 0) (counted (getD ns 2 0)) (uncounted (getD ns 0 0) (getD ns 1 0))
+lengthTold ns = totalTold (getD ns 2 0) ns
 
 -- A path report, whose pairs are returned beside the numbers
 abbrev pub reportNumbers : Total → List ℕ

@@ -5,7 +5,7 @@ use mathlib.Core.Bool.{Bool, true, false}
 use mathlib.Core.List.{List, [], _∷_, _++_}
 use mathlib.Core.Path.{_≡_, refl, ap}
 use lib.Dec.{eqb}
-use lib.ListN.{length, length-append, replicate}
+use lib.ListN.{length, length-append, length-map, replicate}
 use borrow.Author.Tests.{eqb-true, eqb-false}
 use Rattle.layout.specs.Layout.{Kind, Leaf, plain, Layout, nothing, one, text, _then_, case, check, fine, unknown-kind, Value, leaves, Proper}
 use Rattle.layout.specs.Written.{width, four, plainBytes, bytesOf, bytes}
@@ -14,7 +14,7 @@ use Rattle.layout.specs.Entities.{OptionStr, ToSqlConfig, Entity, entityKinds, 
 use Rattle.layout.proofs.InBytes.{bytesOf-append}
 use Rattle.section.specs.Derivation.{Item, sentinel, entity, payload, entry, entries, ProperItem, ProperItems, placed}
 use Rattle.section.proofs.Derivation.{leafSize-bytes}
-use Rattle.paths.specs.Paths.{textField, fieldOf, fullPathFields, fullPath, paths}
+use Rattle.paths.specs.Paths.{textField, fieldOf, fullPathFields, fullPath, kindAndPath, kindsAndPaths}
 use Rattle.paths.specs.Theorems.{Paths-few}
 use Rattle.paths.proofs.Fields.{kind-above, itemPath}
 use Rattle.paths.proofs.Walk.{item-paths}
@@ -60,18 +60,19 @@ one-path : (ls : List Leaf) (i : ℕ) → length (textField ls i) ≤ 1
 one-path ls zero = omega arith
 one-path ls (suc i) = omega arith
 
-path-length : (kind : ℕ) (ls : List Leaf) → (kind ≡ 1 → length (fullPath (plain Kind kind ∷ ls)) ≡ 0) × (length (fullPath (plain Kind kind ∷ ls)) ≤ 1)
-path-length kind ls = (λ e. rw e, one-path (plain Kind kind ∷ ls) (fieldOf fullPathFields kind))
+path-length : (kind : ℕ) (ls : List Leaf) → (kind ≡ 1 → length (kindAndPath (plain Kind kind ∷ ls)) ≡ 0) × (length (kindAndPath (plain Kind kind ∷ ls)) ≤ 1)
+path-length kind ls =
+    (λ e. rw e, omega (arith, one-path (plain Kind kind ∷ ls) (fieldOf fullPathFields kind), length-map (fullPath (plain Kind kind ∷ ls)) (λ path. kind ∷ path)))
 
-entity-few : (v : Value Entity) → Proper Entity v → 27 * length (fullPath (leaves Entity v)) ≤ 4 + length (bytes Entity v)
+entity-few : (v : Value Entity) → Proper Entity v → 27 * length (kindAndPath (leaves Entity v)) ≤ 4 + length (bytes Entity v)
 unfolding Entity
 entity-few v p =
     let ls : List Leaf = leaves (follows entityKinds (v .0)) (v .2) in
     let (none, most) = path-length (v .0) ls in
     go (eqb (v .0) 1) refl none most
   where
-    go : (b : Bool) → eqb (v .0) 1 ≡ b → (v .0 ≡ 1 → length (fullPath (plain Kind (v .0) ∷ leaves (follows entityKinds (v .0)) (v .2))) ≡ 0) → length (fullPath (plain Kind (v .0) ∷ leaves (follows entityKinds (v .0)) (v .2))) ≤ 1
-        → 27 * length (fullPath (plain Kind (v .0) ∷ leaves (follows entityKinds (v .0)) (v .2))) ≤ 4 + length (bytesOf (plain Kind (v .0) ∷ leaves (follows entityKinds (v .0)) (v .2)))
+    go : (b : Bool) → eqb (v .0) 1 ≡ b → (v .0 ≡ 1 → length (kindAndPath (plain Kind (v .0) ∷ leaves (follows entityKinds (v .0)) (v .2))) ≡ 0) → length (kindAndPath (plain Kind (v .0) ∷ leaves (follows entityKinds (v .0)) (v .2))) ≤ 1
+        → 27 * length (kindAndPath (plain Kind (v .0) ∷ leaves (follows entityKinds (v .0)) (v .2))) ≤ 4 + length (bytesOf (plain Kind (v .0) ∷ leaves (follows entityKinds (v .0)) (v .2)))
     go true e none most = omega (arith, none (eqb-true (v .0) 1 e))
     go false e none most = omega (arith, most, after-kind (v .0) (v .2) (p .2) (eqb-false (v .0) 1 e))
 
@@ -79,11 +80,11 @@ item-few : (i : Item) → ProperItem i → 27 * length (itemPath i) ≤ length (
 item-few sentinel p = omega arith
 item-few (entity v) p = omega (arith, entity-few v (p .0), length-append (four (length (bytes Entity v))) (bytes Entity v))
 
-items-few : (at : ℕ) (is : List Item) → ProperItems is → 27 * length (paths (placed at is)) ≤ length (entries is)
+items-few : (at : ℕ) (is : List Item) → ProperItems is → 27 * length (kindsAndPaths (placed at is)) ≤ length (entries is)
 items-few at [] p = omega arith
 items-few at (i ∷ is) p =
     let n : ℕ = at + 4 + length (payload i) in
-    omega (arith, ap length (item-paths at i is), length-append (itemPath i) (paths (placed n is)), length-append (entry i) (entries is), item-few i (p .0), items-few n is (p .1))
+    omega (arith, ap length (item-paths at i is), length-append (itemPath i) (kindsAndPaths (placed n is)), length-append (entry i) (entries is), item-few i (p .0), items-few n is (p .1))
 
 pub paths-few : Paths-few
 paths-few s d g =

@@ -1,5 +1,5 @@
 -- The full_path of a payload stands where the walk over the fields before it ends.
-use Prim.Native.Nat.{ℕ, zero, suc, _+_, _≤_, _<_}
+use Prim.Native.Nat.{ℕ, zero, suc, _+_, _*_, _/_, _%_, _≤_, _<_}
 use native.Mathlib.Nat.{add-zero}
 use native.Mathlib.Omega.{arith}
 use mathlib.Core.List.{List, [], _∷_, _++_, append-assoc, map}
@@ -18,10 +18,10 @@ use Rattle.layout.proofs.Tables.{known-outside}
 use Rattle.bytes.specs.Bytes.{numberOr0}
 use Rattle.bytes.proofs.Number.{number-there}
 use Rattle.section.specs.Derivation.{Item, sentinel, entity, payload, ProperItem}
-use Rattle.runs.specs.Runs.{textFrom}
-use Rattle.paths.specs.Paths.{fullPathFields, fieldOf, textOf, fullPath}
+use Rattle.runs.specs.Runs.{textFrom, kindAndText}
+use Rattle.paths.specs.Paths.{fullPathFields, fieldOf, textOf, fullPath, kindAndPath}
 use Rattle.paths.specs.Theorems.{PathText, Path-text}
-use Rattle.paths.specs.Private.{Field, T, N, afterField, afterFields, fieldsBefore, placeBy, pathPlace, textUnless0, pathAt, PayloadIn}
+use Rattle.paths.specs.Private.{Field, T, N, afterField, afterFields, fieldsBefore, placeBy, pathPlace, markOf, pathMark, markedUnless0, pathAt, PayloadIn}
 
 -- A length that stands at a place
 length-stands : (s : List ℕ) (at n : ℕ) (r : List ℕ) → n < 4294967296 → drop at s ≡ four n ++ r → (at + 4 ≤ length s) × (numberOr0 s at ≡ n)
@@ -69,7 +69,7 @@ pub place-none : (s : List ℕ) (at kind : ℕ) → kind ≡ getD s at 0 → Out
 unfolding pathPlace
 place-none s at kind e h = rw (← e) (placeBy-outside fieldsBefore s kind (at + 1) h)
 
--- A payload stands at a place, and its full_path is as given
+-- A payload stands at a place, and its kind and full_path are as given
 pub record Found (s : List ℕ) (at : ℕ) (ts : List (List ℕ)) : Type 0 where
   pub inside : PayloadIn s at
   pub path : pathAt s at ≡ ts
@@ -78,16 +78,24 @@ first-byte : (s : List ℕ) (at n : ℕ) (r : List ℕ) → drop at s ≡ n ∷ 
 first-byte s at n r e = (omega (arith, ap length e, length-drop at s), rw add-zero at (sym (getD-drop at s 0 0) ∙ ap (λ (l : List ℕ). getD l 0 0) e))
 
 found-none : (s : List ℕ) (at kind : ℕ) (r : List ℕ) → length s ≤ limit → drop at s ≡ kind ∷ r → placeBy fieldsBefore s kind (at + 1) ≡ 0 → Found s at []
-unfolding pathAt
+unfolding pathAt pathMark
 found-none s at kind r h e p =
     let (b, k) = first-byte s at kind r e in
     let q : pathPlace s at ≡ 0 = place-in s at kind k ∙ p in
     record { inside = record { small = h; begins = b; path = λ n. absurd (n q) }; path = rw q }
 
--- The text at a place that is not 0
-text-unless : (s : List ℕ) (p : ℕ) → 1 ≤ p → textUnless0 s p ≡ textFrom s p ∷ []
-text-unless s zero h = absurd (omega arith)
-text-unless s (suc p) h = refl
+-- What a mark stands for that is not 0, and that of a kind and a place
+pub marked : (s : List ℕ) (mark : ℕ) → 1 ≤ mark → markedUnless0 s mark ≡ kindAndText s mark ∷ []
+marked s zero h = absurd (omega arith)
+marked s (suc m) h = refl
+
+kind-marked : (s : List ℕ) (kind place : ℕ) → kind < 256 → 1 ≤ place → markedUnless0 s (markOf kind place) ≡ (kind ∷ textFrom s place) ∷ []
+kind-marked s kind zero h l = absurd (omega arith)
+kind-marked s kind (suc p) h l =
+    let mark : ℕ = 256 * suc p + kind in
+    let k : mark % 256 ≡ kind = omega arith in
+    let q : mark / 256 ≡ suc p = omega arith in
+    marked s mark (omega arith) ∙ rw (k, q)
 
 text-stands : (s : List ℕ) (at : ℕ) (t r : List ℕ) → length t < 4294967296 → drop at s ≡ leafBytes (string t) ++ r → (at + 4 ≤ length s) × (textFrom s at ≡ t)
 unfolding textFrom
@@ -178,9 +186,9 @@ path-text v p n = go (cut-kind (v .0) (v .2) (p .2) (p .3))
     }
 
 -- The full_path stands where it is looked for
-found-cut : (s : List ℕ) (at kind : ℕ) (ls : List Leaf) (r : List ℕ) → length s ≤ limit → (c : Cut kind ls) → drop at s ≡ bytesOf (plain Kind kind ∷ ls) ++ r → Found s at (c .text ∷ [])
-unfolding pathAt
-found-cut s at kind ls r h c e =
+found-cut : (s : List ℕ) (at kind : ℕ) (ls : List Leaf) (r : List ℕ) → length s ≤ limit → kind < 256 → (c : Cut kind ls) → drop at s ≡ bytesOf (plain Kind kind ∷ ls) ++ r → Found s at ((kind ∷ c .text) ∷ [])
+unfolding pathAt pathMark
+found-cut s at kind ls r h l c e =
     let (b, k) = first-byte s at kind _ e in
     let end : ℕ = afterFields s (c .fields) (at + 1) in
     let q : pathPlace s at ≡ end = place-in s at kind k ∙ c .place s (at + 1) in
@@ -190,21 +198,21 @@ found-cut s at kind ls r h c e =
     let (i, u) = text-stands s end (c .text) (y ++ r) (c .fits) (after-fields s (at + 1) (x ++ (y ++ r)) (c .are) (rest-after s at (kind ∷ []) _ e ∙ g)) in
     record {
       inside = record { small = h; begins = b; path = λ n. rw q i };
-      path = rw (q, text-unless s end (omega (arith, after-later s (c .fields) (at + 1)))) (ap (λ (z : List ℕ). z ∷ []) u);
+      path = rw (k, q, kind-marked s kind end l (omega (arith, after-later s (c .fields) (at + 1)))) (ap (λ (z : List ℕ). (kind ∷ z) ∷ []) u);
     }
 
-found-cutting : (s : List ℕ) (at kind : ℕ) (ls : List Leaf) (r : List ℕ) → length s ≤ limit → Cutting kind ls → drop at s ≡ bytesOf (plain Kind kind ∷ ls) ++ r → Found s at (fullPath (plain Kind kind ∷ ls))
-found-cutting s at kind ls r h (whole k) e = rw k (found-none s at 1 _ h (rw k at e) refl)
-found-cutting s at kind ls r h (cut c) e = rw (path-cut kind ls c) (found-cut s at kind ls r h c e)
+found-cutting : (s : List ℕ) (at kind : ℕ) (ls : List Leaf) (r : List ℕ) → length s ≤ limit → kind < 256 → Cutting kind ls → drop at s ≡ bytesOf (plain Kind kind ∷ ls) ++ r → Found s at (kindAndPath (plain Kind kind ∷ ls))
+found-cutting s at kind ls r h l (whole k) e = rw k (found-none s at 1 _ h (rw k at e) refl)
+found-cutting s at kind ls r h l (cut c) e = rw (path-cut kind ls c) (found-cut s at kind ls r h l c e)
 
-found-entity : (v : Value Entity) → Proper Entity v → (s : List ℕ) (at : ℕ) (r : List ℕ) → length s ≤ limit → drop at s ≡ bytes Entity v ++ r → Found s at (fullPath (leaves Entity v))
+found-entity : (v : Value Entity) → Proper Entity v → (s : List ℕ) (at : ℕ) (r : List ℕ) → length s ≤ limit → drop at s ≡ bytes Entity v ++ r → Found s at (kindAndPath (leaves Entity v))
 unfolding Entity
-found-entity v p s at r h e = found-cutting s at (v .0) _ r h (cut-kind (v .0) (v .2) (p .2) (p .3)) e
+found-entity v p s at r h e = found-cutting s at (v .0) _ r h (p .0) (cut-kind (v .0) (v .2) (p .2) (p .3)) e
 
--- The full_path of an item, if it has one
+-- The kind and the full_path of an item, if it has one
 abbrev pub itemPath : Item → List (List ℕ)
 itemPath sentinel = []
-itemPath (entity v) = fullPath (leaves Entity v)
+itemPath (entity v) = kindAndPath (leaves Entity v)
 
 pub found-item : (i : Item) → ProperItem i → (s : List ℕ) (at : ℕ) (r : List ℕ) → length s ≤ limit → drop at s ≡ payload i ++ r → Found s at (itemPath i)
 found-item sentinel p s at r h e = found-none s at 0 _ h e refl

@@ -21,18 +21,17 @@ use Rattle.section.specs.Rest.{Rest}
 use Rattle.section.proofs.Demand3.{refusal-numbered}
 use Rattle.section.proofs.Rest.{rest-whole}
 use Rattle.runs.specs.Runs.{pairs}
-use Rattle.paths.specs.Paths.{paths, report}
-use Rattle.paths.specs.Theorems.{Report-exact, Report-numbered}
+use Rattle.paths.specs.Paths.{kindsAndPaths, report}
 use Rattle.paths.specs.Private.{Counts}
 use Rattle.layout.specs.Answers as answers
 use Rattle.table.specs.declared.Answer as declared
 
-report-derived : (s : List ℕ) (d : Derivation) → Good s d → report s ≡ counted (pairs (paths (entitiesOf d)))
+pub report-derived : (s : List ℕ) (d : Derivation) → Good s d → report s ≡ counted (pairs (kindsAndPaths (entitiesOf d)))
 unfolding report
 report-derived s d g = rw (section-complete s d g)
 
 module _ (s : List ℕ) (n p : ℕ) (e : readSection s ≡ refuse n p) where
-  report-refused : report s ≡ uncounted n p
+  pub report-refused : report s ≡ uncounted n p
   unfolding report
   report-refused = rw e
 
@@ -44,23 +43,6 @@ module _ (s : List ℕ) (n p : ℕ) (e : readSection s ≡ refuse n p) where
 derived-thirteen : (s : List ℕ) (es : List Placed) (end : ℕ) → readSection s ≡ ok es end → (table : List ℕ) (n p : ℕ) → reading s table .answer ≡ answers.refused n p → n ≡ 13
 unfolding reading
 derived-thirteen s es end e table n p q = only-thirteen (leb (totalLeaves es) (wholeRows table)) (givenOf es) table n p (rw e at q)
-
-pub report-exact : Report-exact
-report-exact s u = (report-derived s, λ n p r. report-refused s n p (refusal-exact s u n p .1 r))
-
-pub report-numbered : Report-numbered
-unfolding report
-report-numbered s u n p q = go (readSection s) refl
-  where
-    go : (m : Outcome ℕ (List Placed)) → readSection s ≡ m → (1 ≤ n) × (n ≤ 12)
-    go (ok es end) e =
-        let k : counted (pairs (paths es)) ≡ uncounted n p = rw e at q in
-        let z : _≡_ {A = ℕ} 0 1 = cc in
-        absurd (omega arith)
-    go (refuse m t) e =
-        let k : uncounted m t ≡ uncounted n p = rw e at q in
-        let j : m ≡ n = cc in
-        rw (← j) (refusal-numbered s m t (refusal-exact s u m t .0 e))
 
 -- No refusal of 1 to 12 is met
 abbrev pub Passes : declared.Answer → Type 0

@@ -1,3 +1,4 @@
 pub mod Paths
+pub mod Repeats
 pub mod Theorems
 pub mod Private

@@ -46,14 +46,18 @@ textField ls (suc i) = getD (map textOf ls) (suc i) [] ∷ []
 abbrev pub fullPath : List Leaf → List (List ℕ)
 fullPath ls = textField ls (fieldOf fullPathFields (valueIn ls 0))
 
--- The full_path texts of entities, in order
-abbrev pub paths : List Placed → List (List ℕ)
-paths [] = []
-paths (e ∷ es) = fullPath (e .content) ++ paths es
+-- The kind of an entity with these leaves, and then the bytes of its full_path, if it has one
+abbrev pub kindAndPath : List Leaf → List (List ℕ)
+kindAndPath ls = map (λ path. valueIn ls 0 ∷ path) (fullPath ls)
+
+-- Those of entities, in order. Two are the same exactly if the entities are of one kind and their full_path bytes agree
+abbrev pub kindsAndPaths : List Placed → List (List ℕ)
+kindsAndPaths [] = []
+kindsAndPaths (e ∷ es) = kindAndPath (e .content) ++ kindsAndPaths es
 
 -- The report on what is read: the number of pairs, or a refusal
 abbrev pub reportOn : Outcome ℕ (List Placed) → Total
-reportOn (ok es end) = counted (pairs (paths es))
+reportOn (ok es end) = counted (pairs (kindsAndPaths es))
 reportOn (refuse n p) = uncounted n p
 
 -- The report on a section: its refusals of 1 to 12 are the report's

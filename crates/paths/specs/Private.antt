@@ -1,5 +1,5 @@
 -- What only the private functions of the crate promise one another. No public contract cites anything here.
-use Prim.Native.Nat.{ℕ, zero, suc, _+_, _≤_, _<_}
+use Prim.Native.Nat.{ℕ, zero, suc, _+_, _*_, _≤_, _<_}
 use mathlib.Core.Bool.{cond}
 use mathlib.Core.List.{List, [], _∷_, _++_}
 use mathlib.Core.Path.{_≡_}
@@ -9,8 +9,8 @@ use Rattle.layout.specs.Answers.{limit}
 use Rattle.bytes.specs.Bytes.{numberOr0}
 use Rattle.section.specs.Derivation.{placed}
 use Rattle.section.specs.Rest.{Rest}
-use Rattle.runs.specs.Runs.{textFrom, texts, equals, pairs}
-use Rattle.paths.specs.Paths.{paths}
+use Rattle.runs.specs.Runs.{kindAndText, kindsAndTexts, equals, pairs}
+use Rattle.paths.specs.Paths.{kindsAndPaths}
 
 -- The field of a text or a number
 pub data Field : Type 0 where
@@ -49,18 +49,27 @@ placeBy (row ∷ rows) s kind at = cond (eqb kind (row .0)) (afterFields s (row 
 unfoldable pub pathPlace : List ℕ → ℕ → ℕ
 pathPlace s at = placeBy fieldsBefore s (getD s at 0) (at + 1)
 
--- The text at a place, unless that is 0
-abbrev pub textUnless0 : List ℕ → ℕ → List (List ℕ)
-textUnless0 s zero = []
-textUnless0 s (suc p) = textFrom s (suc p) ∷ []
+-- The mark of a kind and a place, 0 if the place is 0
+abbrev pub markOf : (kind place : ℕ) → ℕ
+markOf kind zero = 0
+markOf kind (suc p) = 256 * suc p + kind
 
--- The full_path of the payload that begins at a place, if it has one
+-- The mark of the payload that begins at a place, 0 if it has no full_path
+unfoldable pub pathMark : List ℕ → ℕ → ℕ
+pathMark s at = markOf (getD s at 0) (pathPlace s at)
+
+-- What a mark stands for, unless it is 0
+abbrev pub markedUnless0 : List ℕ → (mark : ℕ) → List (List ℕ)
+markedUnless0 s zero = []
+markedUnless0 s (suc m) = kindAndText s (suc m) ∷ []
+
+-- The kind and the full_path of the payload that begins at a place, if it has one
 unfoldable pub pathAt : List ℕ → ℕ → List (List ℕ)
-pathAt s at = textUnless0 s (pathPlace s at)
+pathAt s at = markedUnless0 s (pathMark s at)
 
--- The full_path texts of the entities from a boundary on
+-- The kinds and the full_path texts of the entities from a boundary on
 abbrev pub pathsOf : {s : List ℕ} {at : ℕ} → Rest s at → List (List ℕ)
-pathsOf {s} {at} w = paths (placed at (w .derivation .items))
+pathsOf {s} {at} w = kindsAndPaths (placed at (w .derivation .items))
 
 -- A place from which a few lengths can be added
 abbrev pub far : ℕ
@@ -76,7 +85,7 @@ pub record PayloadIn (s : List ℕ) (at : ℕ) : Type 0 where
   pub begins : at < length s
   pub path : (pathPlace s at ≡ 0 → ⊥) → pathPlace s at + 4 ≤ length s
 
--- The pairs of one of some texts with one of some others
+-- The pairs of one of some lists with one of some others
 abbrev pub pairsWith : List (List ℕ) → List (List ℕ) → ℕ
 pairsWith [] us = 0
 pairsWith (t ∷ ts) us = equals t us + pairsWith ts us
@@ -90,14 +99,14 @@ pub record CountsWith (s : List ℕ) (payload next n : ℕ) : Type 0 where
   pub small : n ≤ limit
   pub counts : (w : Rest s next) → n ≡ pairsWith (pathAt s payload) (pathsOf w)
 
--- Of the full_path texts there are as many as found, and their places stand in the work, if it has room for them
+-- Of the full_path texts there are as many as found, and their marks stand in the work, if it has room for them
 pub record Gathered (s work : List ℕ) (found : ℕ) : Type 0 where
   pub small : found ≤ limit
-  pub are : found ≤ length work → (w : Rest s 0) → texts s (take found work) ≡ pathsOf w
+  pub are : found ≤ length work → (w : Rest s 0) → kindsAndTexts s (take found work) ≡ pathsOf w
 
--- After the places found before stands that of a payload's full_path, if it has one and there is room, and it is counted
+-- After the marks found before stands that of a payload's full_path, if it has one and there is room, and it is counted
 pub record Put (s : List ℕ) (payload : ℕ) (before : List ℕ) (found : ℕ) (after : List ℕ) (more : ℕ) : Type 0 where
   pub length-is : length after ≡ length before
   pub least : found ≤ more
   pub most : more ≤ found + 1
-  pub put : more ≤ length after → texts s (take more after) ≡ texts s (take found before) ++ pathAt s payload
+  pub put : more ≤ length after → kindsAndTexts s (take more after) ≡ kindsAndTexts s (take found before) ++ pathAt s payload

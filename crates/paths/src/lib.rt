@@ -1,14 +1,15 @@
-// The path report: how many pairs of entities have the same full_path.
+// The path report: how many pairs of entities repeat a path.
 use table::Answer;
 use table::Refusal;
 ghost use mathlib.Core.List.{[], _∷_};
 ghost use mathlib.Core.Path.{_≡_};
 ghost use Prim.Native.Nat.{_+_, _*_, _<_, _≤_};
 ghost use Rattle.layout.specs.Answers.{limit};
-ghost use Rattle.runs.specs.Runs.{textFrom, equals};
+ghost use Rattle.runs.specs.Runs.{kindAndText, equals};
 ghost use Rattle.section.specs.Rest.{Rest};
 ghost use Rattle.paths.specs.Paths.{report, reportOf};
-ghost use Rattle.paths.specs.Private.{T, N, afterFields, pathPlace, pathAt, far, longest, PayloadIn, Counts, CountsWith, Gathered, Put};
+ghost use Rattle.paths.specs.Repeats.{ExactReport};
+ghost use Rattle.paths.specs.Private.{T, N, afterFields, pathPlace, pathMark, pathAt, far, longest, PayloadIn, Counts, CountsWith, Gathered, Put};
 
 // The number of pairs, or a section's refusal.
 pub enum PathReport {
@@ -16,11 +17,12 @@ pub enum PathReport {
     Refused(Refusal),
 }
 
-// The number of unordered pairs of entities with the same full_path bytes, or the section's refusal of 1 to 12. The answer does
-// not depend on `work`, and what `work` holds afterwards is free. The section is read through a table without rows, so that 13
-// only says that it is derived and has leaves.
-pub fn path_report(section: &[u8], work: &mut [u32]) -> PathReport
+// The number of unordered pairs of entities that repeat a path, since they are of one kind and their full_path bytes agree; or the
+// section's refusal of 1 to 12. The answer does not depend on `work`, and what `work` holds afterwards is free. The section is read
+// through a table without rows, so that 13 only says that it is derived and has leaves.
+pub fn path_repeats(section: &[u8], work: &mut [u32]) -> PathReport
     ensures { λ r. ⌜ reportOf r ≡ report (now (section .entry)) ⌝ }
+    ensures { λ r. ⌜ ExactReport (now (section .entry)) (reportOf r) ⌝ }
 {
     let mut none: [u32; 0] = [];
     let answer = section::decode_entities(section, &mut none);
@@ -42,7 +44,7 @@ pub fn path_report(section: &[u8], work: &mut [u32]) -> PathReport
     }
 }
 
-// The pairs of a derived section: by sorting, if `work` has room for the place of each full_path; else one by one.
+// The pairs of a derived section: by sorting, if `work` has room for the mark of each full_path; else one by one.
 fn count_pairs(s: &[u8], work: &mut [u32]) -> u64
     requires { ⌜ Rest (now s) 0 ⌝ }
     ensures { λ r. ⌜ Counts (now (s .entry)) 0 r ⌝ }
@@ -54,7 +56,7 @@ fn count_pairs(s: &[u8], work: &mut [u32]) -> u64
     runs::equal_pairs(s, &mut work[..found])
 }
 
-// How many entities of a derived section have a full_path. The place of each is stored in `work`, as far as there is room.
+// How many entities of a derived section have a full_path. The mark of each is stored in `work`, as far as there is room.
 fn find_paths(s: &[u8], work: &mut [u32]) -> usize
     requires { ⌜ Rest (now s) 0 ⌝ }
     ensures { λ r. ⌜ Gathered (now (s .entry)) (now (work .exit)) r ⌝ }
@@ -71,17 +73,17 @@ fn find_paths(s: &[u8], work: &mut [u32]) -> usize
     found
 }
 
-// Stores the place of a payload's full_path, if it has one and there is room, after those found before, and counts it.
+// Stores the mark of a payload's full_path, if it has one and there is room, after those found before, and counts it.
 fn put_path(s: &[u8], payload: usize, work: &mut [u32], found: usize) -> usize
     requires { ⌜ PayloadIn (now s) payload × (found ≤ limit) ⌝ }
     ensures { λ r. ⌜ Put (now (s .entry)) payload (now (work .entry)) found (now (work .exit)) r ⌝ }
 {
-    let path = full_path(s, payload);
-    if path == 0 {
+    let mark = path_mark(s, payload);
+    if mark == 0 {
         return found;
     }
     if found < work.len() {
-        work[found] = path as u32;
+        work[found] = mark;
     }
     found + 1
 }
@@ -108,8 +110,8 @@ fn pairs_with_later(s: &[u8], payload: usize, next: usize) -> u64
     requires { ⌜ PayloadIn (now s) payload × Rest (now s) next ⌝ }
     ensures { λ r. ⌜ CountsWith (now (s .entry)) payload next r ⌝ }
 {
-    let path = full_path(s, payload);
-    if path == 0 {
+    let mark = path_mark(s, payload);
+    if mark == 0 {
         return 0;
     }
     let mut at = next;
@@ -117,26 +119,39 @@ fn pairs_with_later(s: &[u8], payload: usize, next: usize) -> u64
     let mut size = bytes::number_at(s, at);
     while size != 0 {
         let other = at + 4;
-        count += pair(s, path, other);
+        count += pair(s, mark, other);
         at = other + size as usize;
         size = bytes::number_at(s, at);
     }
     count
 }
 
-// 1 if a payload has a full_path with the bytes of the text whose length stands at `path`, else 0.
-fn pair(s: &[u8], path: usize, payload: usize) -> u64
+// 1 if a payload is of the kind of a mark and its full_path has the bytes of the mark's text, else 0.
+fn pair(s: &[u8], mark: u32, payload: usize) -> u64
     requires { ⌜ PayloadIn (now s) payload ⌝ }
-    ensures { λ r. ⌜ (r ≡ equals (textFrom (now (s .entry)) path) (pathAt (now (s .entry)) payload)) × (r ≤ 1) ⌝ }
+    ensures { λ r. ⌜ (r ≡ equals (kindAndText (now (s .entry)) mark) (pathAt (now (s .entry)) payload)) × (r ≤ 1) ⌝ }
 {
-    let other = full_path(s, payload);
+    let other = path_mark(s, payload);
     if other == 0 {
         return 0;
     }
-    if runs::same_text(s, path, other) {
+    if runs::repeats(s, mark, other) {
         return 1;
     }
     0
+}
+
+// The mark of a payload's kind and full_path, 0 if it has no full_path.
+fn path_mark(s: &[u8], payload: usize) -> u32
+    requires { ⌜ PayloadIn (now s) payload ⌝ }
+    ensures { λ r. ⌜ r ≡ pathMark (now (s .entry)) payload ⌝ }
+{
+    let path = full_path(s, payload);
+    if path == 0 {
+        return 0;
+    }
+    let kind = bytes::wide(s[payload]);
+    runs::KINDS * path as u32 + kind
 }
 
 // Where the length of a payload's full_path stands, or 0: a schema and the sentinel, which begins with 0, have none.

@@ -1,4 +1,4 @@
--- What four numbers tell of a reading, a measuring, a writing and a part.
+-- What four numbers tell of a reading, a measuring, a writing and a path report.
 use Prim.Native.Nat.{ℕ}
 use native.Mathlib.Omega.{arith}
 use mathlib.Core.Bool.{Bool}
@@ -14,10 +14,11 @@ use Rattle.layout.specs.Theorems.{Bytes, Told}
 use Rattle.layout.proofs.Alone.{alone-exact, alone-told}
 use Rattle.section.specs.Section.{reading}
 use Rattle.section.specs.Demand3.{Demand3}
-use Rattle.section.proofs.Demand3.{reading-meets, reading-told}
+use Rattle.section.proofs.Demand3.{reading-meets, reading-told, refusal-numbered}
 use Rattle.table.specs.Answers.{answerOf, resultOf, Total, counted, uncounted}
 use Rattle.entry_writer.specs.Refusals.{Form, WriteRefusal, not-spelled, bad-text, too-long, no-space}
-use Rattle.packing.specs.Numbers.{answerNumbers, answerIn, resultIn, lengthNumbers, lengthTold}
+use Rattle.paths.specs.Repeats.{ExactReport}
+use Rattle.packing.specs.Numbers.{answerNumbers, answerIn, resultIn, lengthNumbers, totalTold, lengthTold, reportNumbers, pairsIn}
 use Rattle.table.specs.declared.Answer as declared
 
 -- The numbers of an answer that its number tells, tell that answer
@@ -59,3 +60,14 @@ length-in (uncounted n p) h = rw (ne-eqb n 0 (h n p refl))
 pub length-told : (P : Total → Type 0) {F : Form} {rows text : List ℕ} {size : ℕ} (numbers : List ℕ) (l : Total) → numbers ≡ lengthNumbers l
     → ((n p : ℕ) → (l ≡ uncounted n p) ↔ WriteRefusal F rows text size n × (p ≡ 0)) → P l → P (lengthTold numbers)
 length-told P numbers l e r x = subst P (sym (ap lengthTold e ∙ length-in l λ n p q. writing-some (r n p .0 q .0))) x
+
+-- The pairs of a report and its numbers, whose refusals are told by their number, tell that report
+report-in : (t : Total) → ((n p : ℕ) → t ≡ uncounted n p → n ≡ 0 → ⊥) → totalTold (pairsIn t) (reportNumbers t) ≡ t
+report-in (counted n) h = refl
+report-in (uncounted n p) h = rw (ne-eqb n 0 (h n p refl))
+
+-- So its contract holds of what the pairs and the numbers tell
+pub report-told : (s : List ℕ) (pairs : ℕ) (numbers : List ℕ) (t : Total) → pairs ≡ pairsIn t → numbers ≡ reportNumbers t → ExactReport s t → ExactReport s (totalTold pairs numbers)
+report-told s pairs numbers t e q x =
+    let some : (n p : ℕ) → t ≡ uncounted n p → n ≡ 0 → ⊥ = λ n p k z. omega (arith, z, refusal-numbered s n p (x .refuses n p .0 k)) in
+    rw (e, q, report-in t some) x

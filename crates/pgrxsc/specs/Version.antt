@@ -3,4 +3,4 @@ use Prim.Native.Nat.{ℕ}
 
 -- It grows by one when a function, a row or a refusal changes
 abbrev pub version : ℕ
-version = 1
+version = 2

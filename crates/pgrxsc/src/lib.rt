@@ -15,15 +15,16 @@ ghost use Rattle.section.specs.Demand3.{Demand3};
 ghost use Rattle.parts.specs.Parts.{rowText, sqlNameIn};
 ghost use Rattle.sql_text.specs.SqlText.{sqlText, filled, sqlAnswer};
 ghost use Rattle.paths.specs.Paths.{report};
+ghost use Rattle.paths.specs.Repeats.{ExactReport};
 ghost use Rattle.entry_writer.specs.Writing.{measured, write, lengthIn, written};
 ghost use Rattle.entry_writer.specs.Refusals.{alone, ExactLength, ExactWriting};
 ghost use Rattle.section_writer.specs.Form.{section};
 ghost use Rattle.section_writer.specs.Writing.{measuredSection, writeSection};
 ghost use Rattle.pgrxsc.specs.Version.{version};
-ghost use Rattle.packing.specs.Numbers.{answerNumbers, resultIn, partNumbers, placeNumbers, inBuffer, lengthNumbers, lengthTold, reportNumbers, pairsIn};
+ghost use Rattle.packing.specs.Numbers.{answerNumbers, resultIn, partNumbers, placeNumbers, inBuffer, lengthNumbers, lengthTold, reportNumbers, pairsIn, totalTold};
 
 // The version of these functions, which include/pgrxsc.h has as PGRXSC_VERSION.
-const VERSION: u32 = 1;
+const VERSION: u32 = 2;
 
 // Which version of these functions the archive has.
 #[no_mangle]
@@ -225,13 +226,14 @@ pub extern "C" fn pgrxsc_section_len(rows: &[u32], text: &[u8], answer: &mut [u6
     *answer = packing::length_numbers(section_writer::entities_len(rows, text));
 }
 
-// The number of pairs of entities with the same full_path. It does not depend on `work`; what `work` holds afterwards is free.
+// The number of pairs of entities that repeat a path. It does not depend on `work`; what `work` holds afterwards is free.
 #[no_mangle]
-pub extern "C" fn pgrxsc_path_pairs(bytes: &[u8], work: &mut [u32], answer: &mut [u64; 4]) -> u64
+pub extern "C" fn pgrxsc_path_repeats(bytes: &[u8], work: &mut [u32], answer: &mut [u64; 4]) -> u64
     ensures { λ r. ⌜ r ≡ pairsIn (report (now (bytes .entry))) ⌝ }
     ensures { λ r. ⌜ now (answer .exit) ≡ reportNumbers (report (now (bytes .entry))) ⌝ }
+    ensures { λ r. ⌜ ExactReport (now (bytes .entry)) (totalTold r (now (answer .exit))) ⌝ }
 {
-    let report = paths::path_report(bytes, work);
+    let report = paths::path_repeats(bytes, work);
     *answer = packing::report_numbers(report);
     packing::pairs_in(report)
 }

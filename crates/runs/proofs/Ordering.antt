@@ -1,4 +1,4 @@
--- The order of texts.
+-- The order of texts, and of kinds with a text each.
 use Prim.Native.Nat.{ℕ, _+_, _<_, _≤_}
 use native.Mathlib.Omega.{arith}
 use mathlib.Core.Bool.{Bool, true, false, cond}
@@ -12,7 +12,7 @@ use Rattle.bytes.specs.Bytes.{same}
 use Rattle.layout.proofs.InBytes.{byte-there}
 use Rattle.layout.proofs.BadReads.{not-true}
 use Rattle.bytes.proofs.Compared.{same-sound}
-use Rattle.runs.specs.Private.{lex, orderOf}
+use Rattle.runs.specs.Private.{lex, orderOf, ranked, kindOrder}
 
 -- What the order of lists says of their heads
 module _ (x y n : ℕ) where
@@ -65,22 +65,42 @@ lex-trans (x ∷ t) (y ∷ u) (z ∷ v) e f =
     (λ p. ⊎-elim (λ q. less-head x z _ (omega arith)) (λ q. less-head x z _ (omega arith)) (head-0 y z _ f))
     (head-0 x y _ e)
 
-pub order-equal : (t u : List ℕ) → orderOf t u ≡ 1 → t ≡ u
-unfolding orderOf
-order-equal t u e = let q : (length t ∷ t) ≡ (length u ∷ u) = lex-equal (length t ∷ t) (length u ∷ u) e in cc
+ranked-equal : (t u : List ℕ) → lex (ranked t) (ranked u) ≡ 1 → t ≡ u
+ranked-equal [] [] e = refl
+ranked-equal [] (l ∷ u) e = absurd (omega arith)
+ranked-equal (k ∷ t) [] e = absurd (omega arith)
+ranked-equal (k ∷ t) (l ∷ u) e = let q : (k ∷ length t ∷ t) ≡ (l ∷ length u ∷ u) = lex-equal (k ∷ length t ∷ t) (l ∷ length u ∷ u) e in cc
 
-pub order-trans : (t u v : List ℕ) → orderOf t u ≡ 0 → orderOf u v ≡ 0 → orderOf t v ≡ 0
-unfolding orderOf
-order-trans t u v e f = lex-trans (length t ∷ t) (length u ∷ u) (length v ∷ v) e f
+pub order-equal : (t u : List ℕ) → kindOrder t u ≡ 1 → t ≡ u
+unfolding kindOrder
+order-equal t u e = ranked-equal t u e
 
-order-refl : (t : List ℕ) → orderOf t t ≡ 1
-unfolding orderOf
-order-refl t = lex-refl (length t ∷ t)
+pub order-trans : (t u v : List ℕ) → kindOrder t u ≡ 0 → kindOrder u v ≡ 0 → kindOrder t v ≡ 0
+unfolding kindOrder
+order-trans t u v e f = lex-trans (ranked t) (ranked u) (ranked v) e f
 
-pub order-differ : (t u : List ℕ) → orderOf t u ≡ 0 → same t u ≡ false
+order-refl : (t : List ℕ) → kindOrder t t ≡ 1
+unfolding kindOrder
+order-refl t = lex-refl (ranked t)
+
+pub order-differ : (t u : List ℕ) → kindOrder t u ≡ 0 → same t u ≡ false
 order-differ t u e = not-true _ λ q.
-    let p : orderOf t t ≡ orderOf t u = ap (orderOf t) (same-sound t u q) in
+    let p : kindOrder t t ≡ kindOrder t u = ap (kindOrder t) (same-sound t u q) in
     omega (arith, p, e, order-refl t)
+
+-- The kinds differ, or the texts are compared
+module _ (k l : ℕ) (t u : List ℕ) where
+  pub kind-less : k < l → kindOrder (k ∷ t) (l ∷ u) ≡ 0
+  unfolding kindOrder
+  kind-less h = less-head k l (lex (length t ∷ t) (length u ∷ u)) h
+
+  pub kind-greater : l < k → kindOrder (k ∷ t) (l ∷ u) ≡ 2
+  unfolding kindOrder
+  kind-greater h = greater-head k l (lex (length t ∷ t) (length u ∷ u)) h
+
+  pub kind-same : k ≡ l → kindOrder (k ∷ t) (l ∷ u) ≡ orderOf t u
+  unfolding kindOrder orderOf
+  kind-same e = same-head k l (lex (length t ∷ t) (length u ∷ u)) e
 
 -- The lengths differ, or the bytes are compared
 module _ (a b : List ℕ) where

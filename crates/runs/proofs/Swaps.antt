@@ -1,4 +1,4 @@
--- An exchange of two places leaves the number of pairs as it was.
+-- An exchange of two marks leaves the number of pairs as it was.
 use Prim.Native.Nat.{ℕ, zero, suc, _+_, _<_, _≤_}
 use native.Mathlib.Omega.{arith}
 use mathlib.Core.Bool.{Bool, true, false, cond}
@@ -9,12 +9,12 @@ use borrow.Author.Tests.{le-leb, lt-leb}
 use Rattle.layout.specs.Answers.{limit}
 use Rattle.bytes.specs.Bytes.{same}
 use Rattle.bytes.proofs.Compared.{same-sound, same-refl}
-use Rattle.runs.specs.Runs.{textFrom, texts, equals, pairs, equalPairs}
+use Rattle.runs.specs.Runs.{kindAndText, kindsAndTexts, equals, pairs, equalPairs}
 use Rattle.runs.specs.declared.Runs.{Runs}
 use Rattle.runs.specs.declared.Runs.the-variants.{Counted}
 use Rattle.runs.specs.Private.{swapped, Kept, PairsOf}
 
--- 1 if two texts are the same, else 0
+-- 1 if two lists are the same, else 0
 unfoldable one : List ℕ → List ℕ → ℕ
 one t u = cond (same t u) 1 0
 
@@ -36,7 +36,7 @@ equals-cons : (t u : List ℕ) (us : List (List ℕ)) → equals t (u ∷ us) �
 unfolding one
 equals-cons t u us = refl
 
--- One text put in the place of another
+-- One list put in the place of another
 module _ (d : List ℕ) where
   equals-set : (t : List ℕ) (l : List (List ℕ)) (i : ℕ) (v : List ℕ) → i < length l → equals t (set l i v) + one t (getD l i d) ≡ equals t l + one t v
   unfolding one
@@ -74,11 +74,11 @@ module _ {A B : Type 0} (f : A → B) where
   map-set (x ∷ l) (suc i) v = rw (map-set l i v)
 
 module _ (s : List ℕ) where
-  texts-swap : (l : List ℕ) (i j : ℕ) → i < length l → j < length l → pairs (texts s (swapped l i j)) ≡ pairs (texts s l)
-  texts-swap l i j h k =
-      let d = textFrom s 0 in
-      rw (map-set (textFrom s) (set l i (getD l j 0)) j (getD l i 0), map-set (textFrom s) l i (getD l j 0), ← List·getD-map (textFrom s) l i 0, ← List·getD-map (textFrom s) l j 0)
-      (pairs-swap d (texts s l) i j (omega (arith, length-map l (textFrom s))) (omega (arith, length-map l (textFrom s))))
+  marks-swap : (l : List ℕ) (i j : ℕ) → i < length l → j < length l → pairs (kindsAndTexts s (swapped l i j)) ≡ pairs (kindsAndTexts s l)
+  marks-swap l i j h k =
+      let d = kindAndText s 0 in
+      rw (map-set (kindAndText s) (set l i (getD l j 0)) j (getD l i 0), map-set (kindAndText s) l i (getD l j 0), ← List·getD-map (kindAndText s) l i 0, ← List·getD-map (kindAndText s) l j 0)
+      (pairs-swap d (kindsAndTexts s l) i j (omega (arith, length-map l (kindAndText s))) (omega (arith, length-map l (kindAndText s))))
 
   pub kept-same : (l : List ℕ) → Kept s l l
   kept-same l = record { length-is = refl; pairs-is = refl }
@@ -88,15 +88,15 @@ module _ (s : List ℕ) where
       rw e
       (record {
         length-is = length-set (set m i (getD m j 0)) j (getD m i 0) ∙ length-set m i (getD m j 0) ∙ k .length-is;
-        pairs-is = texts-swap m i j (omega (arith, k .length-is)) (omega (arith, k .length-is)) ∙ k .pairs-is;
+        pairs-is = marks-swap m i j (omega (arith, k .length-is)) (omega (arith, k .length-is)) ∙ k .pairs-is;
       })
 
   pub kept-on : {l m n : List ℕ} → Kept s l m → Kept s m n → Kept s l n
   kept-on k j = record { length-is = j .length-is ∙ k .length-is; pairs-is = j .pairs-is ∙ k .pairs-is }
 
--- The pairs of the places as they were, up to the limit; and none above it
+-- The pairs of the marks as they were, up to the limit; and none above it
 module _ (s l : List ℕ) where
-  pub pairs-few : length l ≤ limit → pairs (texts s l) ≡ equalPairs s l
+  pub pairs-few : length l ≤ limit → pairs (kindsAndTexts s l) ≡ equalPairs s l
   unfolding equalPairs
   pairs-few h = rw (le-leb (length l) limit h)
 
@@ -104,5 +104,5 @@ module _ (s l : List ℕ) where
   unfolding equalPairs
   pairs-many h = rw (lt-leb (length l) limit h)
 
-  pub pairs-counted : (m : List ℕ) → Kept s l m → length l ≤ limit → (r : Runs) → PairsOf (texts s m) r → (n : ℕ) → r ≡ Counted n → n ≡ equalPairs s l
+  pub pairs-counted : (m : List ℕ) → Kept s l m → length l ≤ limit → (r : Runs) → PairsOf (kindsAndTexts s m) r → (n : ℕ) → r ≡ Counted n → n ≡ equalPairs s l
   pairs-counted m k h r p n e = (rw e at p) ∙ k .pairs-is ∙ pairs-few h

@@ -1,56 +1,63 @@
-// Pairs of equal texts: the places of the texts are sorted, and runs of equal texts are counted.
+// Pairs of equal texts of one kind: the marks of the texts are sorted, and runs of equal ones are counted. A mark is a kind and the
+// place of a text in one number.
 ghost use mathlib.Core.Path.{_≡_};
-ghost use Prim.Native.Nat.{_+_, _<_, _≤_};
+ghost use Prim.Native.Nat.{_+_, _/_, _<_, _≤_};
 ghost use lib.ListN.{length, getD, drop};
 ghost use Rattle.layout.specs.Answers.{limit};
 ghost use Rattle.bytes.specs.Bytes.{same};
-ghost use Rattle.runs.specs.Runs.{textFrom, texts, equals, pairs, equalPairs};
-ghost use Rattle.runs.specs.Private.{orderOf, swapped, Kept, PairsOf};
+ghost use Rattle.runs.specs.Runs.{textFrom, kindAndText, kindsAndTexts, equals, pairs, equalPairs};
+ghost use Rattle.runs.specs.Private.{orderOf, kindOrder, swapped, Kept, PairsOf};
 
-// The number of pairs of equal texts among those whose lengths stand at the places; 0 if there are more than `layout::LIMIT`
-// places. In which order the places are left is free.
-pub fn equal_pairs(s: &[u8], places: &mut [u32]) -> u64
-    ensures { λ r. ⌜ r ≡ equalPairs (now (s .entry)) (now (places .entry)) ⌝ }
+// A mark is 256 times the place where the length of a text stands, plus the kind of the text.
+pub const KINDS: u32 = 256;
+
+// The number of pairs of marks with one kind and the same text; 0 if there are more than `layout::LIMIT` marks. In which order the
+// marks are left is free.
+pub fn equal_pairs(s: &[u8], marks: &mut [u32]) -> u64
+    ensures { λ r. ⌜ r ≡ equalPairs (now (s .entry)) (now (marks .entry)) ⌝ }
 {
-    if layout::LIMIT < places.len() {
+    if layout::LIMIT < marks.len() {
         return 0;
     }
-    sort(s, places);
-    let runs = count_runs(s, places);
+    sort(s, marks);
+    let runs = count_runs(s, marks);
     match runs {
         Runs::Counted { pairs } => pairs,
-        Runs::Unordered => count_one_by_one(s, places),
+        Runs::Unordered => count_one_by_one(s, marks),
     }
 }
 
-// Whether the texts whose lengths stand at two places have the same bytes.
-pub fn same_text(s: &[u8], a: usize, b: usize) -> bool
-    ensures { λ r. ⌜ r ≡ same (textFrom (now (s .entry)) a) (textFrom (now (s .entry)) b) ⌝ }
+// Whether two marks have one kind and the same text.
+pub fn repeats(s: &[u8], a: u32, b: u32) -> bool
+    ensures { λ r. ⌜ r ≡ same (kindAndText (now (s .entry)) a) (kindAndText (now (s .entry)) b) ⌝ }
 {
-    bytes::same(text_at(s, a), text_at(s, b))
+    if a % KINDS != b % KINDS {
+        return false;
+    }
+    bytes::same(text_of(s, a), text_of(s, b))
 }
 
-// The number of pairs, or that the places do not stand in the order of their texts, which the sorting rules out.
+// The number of pairs, or that the marks do not stand in order, which the sorting rules out.
 enum Runs {
     Counted { pairs: u64 },
     Unordered,
 }
 
-// From the last place to the first: a text that equals the next one makes a pair with each of the next one's run.
-fn count_runs(s: &[u8], places: &[u32]) -> Runs
-    requires { ⌜ length (now places) ≤ limit ⌝ }
-    ensures { λ r. ⌜ PairsOf (texts (now (s .entry)) (now (places .entry))) r ⌝ }
+// From the last mark to the first: one that equals the next makes a pair with each of the next one's run.
+fn count_runs(s: &[u8], marks: &[u32]) -> Runs
+    requires { ⌜ length (now marks) ≤ limit ⌝ }
+    ensures { λ r. ⌜ PairsOf (kindsAndTexts (now (s .entry)) (now (marks .entry))) r ⌝ }
 {
-    if places.len() == 0 {
+    if marks.len() == 0 {
         return Runs::Counted { pairs: 0 };
     }
-    let mut at = places.len() - 1;
+    let mut at = marks.len() - 1;
     let mut run: u64 = 1;
     let mut pairs: u64 = 0;
     while at > 0 {
         let next = at;
         at -= 1;
-        let order = compare(s, places[at], places[next]);
+        let order = compare(s, marks[at], marks[next]);
         if order == EQUAL {
             pairs += run;
             run += 1;
@@ -64,31 +71,31 @@ fn count_runs(s: &[u8], places: &[u32]) -> Runs
     Runs::Counted { pairs }
 }
 
-// From the last place to the first: each makes a pair with every equal text after it.
-fn count_one_by_one(s: &[u8], places: &[u32]) -> u64
-    requires { ⌜ length (now places) ≤ limit ⌝ }
-    ensures { λ r. ⌜ r ≡ pairs (texts (now (s .entry)) (now (places .entry))) ⌝ }
+// From the last mark to the first: each makes a pair with every equal one after it.
+fn count_one_by_one(s: &[u8], marks: &[u32]) -> u64
+    requires { ⌜ length (now marks) ≤ limit ⌝ }
+    ensures { λ r. ⌜ r ≡ pairs (kindsAndTexts (now (s .entry)) (now (marks .entry))) ⌝ }
 {
-    let mut at = places.len();
+    let mut at = marks.len();
     let mut count: u64 = 0;
     while at > 0 {
         at -= 1;
-        count += equals_after(s, places, at);
+        count += equals_after(s, marks, at);
     }
     count
 }
 
-// How many texts after one are equal to it.
-fn equals_after(s: &[u8], places: &[u32], at: usize) -> u64
-    requires { ⌜ (length (now places) ≤ limit) × (at < length (now places)) ⌝ }
-    ensures { λ r. ⌜ (r ≡ equals (textFrom (now (s .entry)) (getD (now (places .entry)) at 0)) (texts (now (s .entry)) (drop (at + 1) (now (places .entry))))) × (r ≤ limit) ⌝ }
+// How many marks after one have its kind and its text.
+fn equals_after(s: &[u8], marks: &[u32], at: usize) -> u64
+    requires { ⌜ (length (now marks) ≤ limit) × (at < length (now marks)) ⌝ }
+    ensures { λ r. ⌜ (r ≡ equals (kindAndText (now (s .entry)) (getD (now (marks .entry)) at 0)) (kindsAndTexts (now (s .entry)) (drop (at + 1) (now (marks .entry))))) × (r ≤ limit) ⌝ }
 {
     let next = at + 1;
-    let mut i = places.len();
+    let mut i = marks.len();
     let mut count: u64 = 0;
     while i > next {
         i -= 1;
-        if same_text(s, places[at] as usize, places[i] as usize) {
+        if repeats(s, marks[at], marks[i]) {
             count += 1;
         }
     }
@@ -96,64 +103,64 @@ fn equals_after(s: &[u8], places: &[u32], at: usize) -> u64
 }
 
 // Heap sort, by swaps alone.
-fn sort(s: &[u8], places: &mut [u32])
-    requires { ⌜ length (now places) ≤ limit ⌝ }
-    ensures { λ r. ⌜ Kept (now (s .entry)) (now (places .entry)) (now (places .exit)) ⌝ }
+fn sort(s: &[u8], marks: &mut [u32])
+    requires { ⌜ length (now marks) ≤ limit ⌝ }
+    ensures { λ r. ⌜ Kept (now (s .entry)) (now (marks .entry)) (now (marks .exit)) ⌝ }
 {
-    let mut end = places.len();
+    let mut end = marks.len();
     let mut root = end / 2;
     while root > 0 {
         root -= 1;
-        sift(s, places, root, end);
+        sift(s, marks, root, end);
     }
     while end > 1 {
         end -= 1;
-        swap(places, 0, end);
-        sift(s, places, 0, end);
+        swap(marks, 0, end);
+        sift(s, marks, 0, end);
     }
 }
 
-// Moves the place at a node down the heap that ends before `end`, until neither of its children has a greater text.
-fn sift(s: &[u8], places: &mut [u32], root: usize, end: usize)
-    requires { ⌜ (length (now places) ≤ limit) × (end ≤ length (now places)) × (root < end) ⌝ }
-    ensures { λ r. ⌜ Kept (now (s .entry)) (now (places .entry)) (now (places .exit)) ⌝ }
+// Moves the mark at a node down the heap that ends before `end`, until neither of its children is greater.
+fn sift(s: &[u8], marks: &mut [u32], root: usize, end: usize)
+    requires { ⌜ (length (now marks) ≤ limit) × (end ≤ length (now marks)) × (root < end) ⌝ }
+    ensures { λ r. ⌜ Kept (now (s .entry)) (now (marks .entry)) (now (marks .exit)) ⌝ }
 {
     let mut at = root;
     let mut child = 2 * at + 1;
     while child < end {
-        child = greater_child(s, places, child, end);
-        if compare(s, places[at], places[child]) != LESS {
+        child = greater_child(s, marks, child, end);
+        if compare(s, marks[at], marks[child]) != LESS {
             return;
         }
-        swap(places, at, child);
+        swap(marks, at, child);
         at = child;
         child = 2 * at + 1;
     }
 }
 
-// The child with the greater text: the left one, or the one after it, if there are two.
-fn greater_child(s: &[u8], places: &[u32], left: usize, end: usize) -> usize
-    requires { ⌜ (end ≤ length (now places)) × (left < end) ⌝ }
+// The greater child: the left one, or the one after it, if there are two.
+fn greater_child(s: &[u8], marks: &[u32], left: usize, end: usize) -> usize
+    requires { ⌜ (end ≤ length (now marks)) × (left < end) ⌝ }
     ensures { λ r. ⌜ (left ≤ r) × (r < end) ⌝ }
 {
     let right = left + 1;
     if right < end {
-        if compare(s, places[left], places[right]) == LESS {
+        if compare(s, marks[left], marks[right]) == LESS {
             return right;
         }
     }
     left
 }
 
-// Exchanges two places.
-fn swap(places: &mut [u32], i: usize, j: usize)
-    requires { ⌜ (i < length (now places)) × (j < length (now places)) ⌝ }
-    ensures { λ r. ⌜ now (places .exit) ≡ swapped (now (places .entry)) i j ⌝ }
+// Exchanges two marks.
+fn swap(marks: &mut [u32], i: usize, j: usize)
+    requires { ⌜ (i < length (now marks)) × (j < length (now marks)) ⌝ }
+    ensures { λ r. ⌜ now (marks .exit) ≡ swapped (now (marks .entry)) i j ⌝ }
 {
-    let a = places[i];
-    let b = places[j];
-    places[i] = b;
-    places[j] = a;
+    let a = marks[i];
+    let b = marks[j];
+    marks[i] = b;
+    marks[j] = a;
 }
 
 const LESS: u32 = 0;
@@ -162,11 +169,17 @@ const EQUAL: u32 = 1;
 
 const GREATER: u32 = 2;
 
-// The order of the texts whose lengths stand at two places.
+// The order of two marks: by their kinds, and then by their texts.
 fn compare(s: &[u8], a: u32, b: u32) -> u32
-    ensures { λ r. ⌜ r ≡ orderOf (textFrom (now (s .entry)) a) (textFrom (now (s .entry)) b) ⌝ }
+    ensures { λ r. ⌜ r ≡ kindOrder (kindAndText (now (s .entry)) a) (kindAndText (now (s .entry)) b) ⌝ }
 {
-    order(text_at(s, a as usize), text_at(s, b as usize))
+    if a % KINDS < b % KINDS {
+        return LESS;
+    }
+    if b % KINDS < a % KINDS {
+        return GREATER;
+    }
+    order(text_of(s, a), text_of(s, b))
 }
 
 // The order of two texts: a shorter one is less; of two with one length, the one whose byte is less where they first differ.
@@ -190,6 +203,13 @@ fn order(a: &[u8], b: &[u8]) -> u32
         i += 1;
     }
     EQUAL
+}
+
+// The text of a mark.
+fn text_of(s: &[u8], mark: u32) -> &[u8]
+    ensures { λ r. ⌜ now r ≡ textFrom (now (s .entry)) (mark / 256) ⌝ }
+{
+    text_at(s, (mark / KINDS) as usize)
 }
 
 // The text whose length stands at a place, as far as there are bytes.

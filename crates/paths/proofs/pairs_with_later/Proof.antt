@@ -8,22 +8,22 @@ use Rattle.paths.proofs.pairs_with_later.Statement.{statement}
 use Rattle.paths.proofs.pairs_with_later.Tie as tie
 
 abbrev Inv-loop : tie.InvT-loop
-Inv-loop s payload next path at₀ count₀ size₀ at count size = Later s next path at count size
+Inv-loop s payload next mark at₀ count₀ size₀ at count size = Later s next mark at count size
 
 abbrev μ-loop : tie.MeasureT-loop
-μ-loop s payload next path at₀ count₀ size₀ at count size = length s - at
+μ-loop s payload next mark at₀ count₀ size₀ at count size = length s - at
 
-full-path-requires : tie.Need-full-path-requires Inv-loop μ-loop
-full-path-requires c κs = c .before .pre .0
+path-mark-requires : tie.Need-path-mark-requires Inv-loop μ-loop
+path-mark-requires c κs = c .before .pre .0
 
 returns : tie.Need-returns Inv-loop μ-loop
-returns c = none-counted (now (c .before .before .before .args .s)) (c .before .before .before .args .payload) (c .before .before .before .args .next) (c .before .full-path .result) (c .before .full-path .ensures) (c .if1 .taken)
+returns c = none-counted (now (c .before .before .before .args .s)) (c .before .before .before .args .payload) (c .before .before .before .args .next) (c .before .path-mark .result) (c .before .path-mark .ensures) (c .if1 .taken)
 
 number-at-requires : tie.Need-number-at-requires Inv-loop μ-loop
 number-at-requires c κs = tt
 
 loop-holds : tie.Need-loop-holds Inv-loop μ-loop
-loop-holds c = later-holds (c .before .before .full-path .result) (c .before .before .before .before .pre .1) (c .number-at .result) (c .number-at .ensures)
+loop-holds c = later-holds (c .before .before .path-mark .result) (c .before .before .before .before .pre .1) (c .number-at .result) (c .number-at .ensures)
 
 add-other : tie.Need-add-other Inv-loop μ-loop
 add-other c = let t = later-step (c .before .loop .inv) (c .loop-test .taken) in omega (arith, t .payload-in .begins, t .payload-in .small)
@@ -52,7 +52,7 @@ loop-again c = later-again (c .before .before .before .loop .inv) (c .before .be
 returns-2 : tie.Need-returns-2 Inv-loop μ-loop
 returns-2 c =
     let args = c .before .before .before .before .before .before .args in
-    later-ends (c .before .loop .inv) (args .payload) (c .before .before .before .before .full-path .ensures) (c .before .before .before .if1 .left) (c .loop-test .left)
+    later-ends (c .before .loop .inv) (args .payload) (c .before .before .before .before .path-mark .ensures) (c .before .before .before .if1 .left) (c .loop-test .left)
 
 pub pairs-with-later-spec : {M : Type 1} → statement M
 pairs-with-later-spec =
@@ -60,7 +60,7 @@ pairs-with-later-spec =
     (tie.spec
     Inv-loop
     μ-loop
-    full-path-requires
+    path-mark-requires
     returns
     number-at-requires
     loop-holds

@@ -1,4 +1,4 @@
--- The texts from a place on, one more at a time.
+-- The marks from a place on, one more at a time.
 use native.Mathlib.Omega.{arith}
 use denote.Ref.{now}
 use Rattle.runs.proofs.OneByOne.{Pairs, pairs-none, pairs-on, pairs-all}
@@ -6,13 +6,13 @@ use Rattle.runs.proofs.count_one_by_one.Statement.{statement}
 use Rattle.runs.proofs.count_one_by_one.Tie as tie
 
 abbrev Inv-loop : tie.InvT-loop
-Inv-loop s places at₀ count₀ at count = Pairs s places at count
+Inv-loop s marks at₀ count₀ at count = Pairs s marks at count
 
 abbrev μ-loop : tie.MeasureT-loop
-μ-loop s places at₀ count₀ at count = at
+μ-loop s marks at₀ count₀ at count = at
 
 loop-holds : tie.Need-loop-holds Inv-loop μ-loop
-loop-holds c = pairs-none (now (c .before .before .args .s)) (now (c .before .before .args .places))
+loop-holds c = pairs-none (now (c .before .before .args .s)) (now (c .before .before .args .marks))
 
 sub-at : tie.Need-sub-at Inv-loop μ-loop
 sub-at c = omega arith

@@ -1,4 +1,4 @@
--- The texts from a place on: the first is the least, its run and their pairs are counted.
+-- The marks from a place on: the first is the least, its run and their pairs are counted.
 use native.Mathlib.Omega.{arith}
 use mathlib.Core.Path.{sym, _∙_}
 use borrow.Author.Needs.{needs}
@@ -8,19 +8,19 @@ use Rattle.runs.proofs.count_runs.Statement.{statement}
 use Rattle.runs.proofs.count_runs.Tie as tie
 
 abbrev Inv-loop : tie.InvT-loop
-Inv-loop s places at₀ run₀ pairs₀ at run pairs = From s places at run pairs
+Inv-loop s marks at₀ run₀ pairs₀ at run pairs = From s marks at run pairs
 
 abbrev μ-loop : tie.MeasureT-loop
-μ-loop s places at₀ run₀ pairs₀ at run pairs = at
+μ-loop s marks at₀ run₀ pairs₀ at run pairs = at
 
 returns : tie.Need-returns Inv-loop μ-loop
-returns c = none-paired (now (c .before .before .before .args .s)) (now (c .before .before .before .args .places)) (c .if1 .taken)
+returns c = none-paired (now (c .before .before .before .args .s)) (now (c .before .before .before .args .marks)) (c .if1 .taken)
 
 sub-at : tie.Need-sub-at Inv-loop μ-loop
 sub-at c = omega arith
 
 loop-holds : tie.Need-loop-holds Inv-loop μ-loop
-loop-holds c = from-last (now (c .before .before .before .args .s)) (now (c .before .before .before .args .places)) _ (omega arith)
+loop-holds c = from-last (now (c .before .before .before .args .s)) (now (c .before .before .before .args .marks)) _ (omega arith)
 
 sub-at-2 : tie.Need-sub-at-2 Inv-loop μ-loop
 sub-at-2 c = omega arith

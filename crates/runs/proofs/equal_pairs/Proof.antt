@@ -8,7 +8,7 @@ use Rattle.runs.proofs.equal_pairs.Statement.{statement}
 use Rattle.runs.proofs.equal_pairs.Tie as tie
 
 returns : tie.Need-returns
-returns c = pairs-many (now (c .before .before .before .args .s)) (now (c .before .before .before .args .places)) (omega arith)
+returns c = pairs-many (now (c .before .before .before .args .s)) (now (c .before .before .before .args .marks)) (omega arith)
 
 sort-requires : tie.Need-sort-requires
 sort-requires c κs = search needs
@@ -32,7 +32,7 @@ returns-2 : tie.Need-returns-2
 returns-2 c =
     let args = c .before .before .before .before .before .before .before .before .before .before .before .before .args in
     let sort = c .before .before .before .before .before .before .before .sort in
-    pairs-counted (now (args .s)) (now (args .places)) _ (sort .ensures) (omega arith) (c .before .before .before .count-runs .result) (c .before .before .before .count-runs .ensures) _ (c .before .runs .given .1)
+    pairs-counted (now (args .s)) (now (args .marks)) _ (sort .ensures) (omega arith) (c .before .before .before .count-runs .result) (c .before .before .before .count-runs .ensures) _ (c .before .runs .given .1)
 
 same-length-2 : tie.Need-same-length-2
 same-length-2 c = search needs
@@ -41,7 +41,7 @@ returns-3 : tie.Need-returns-3
 returns-3 c =
     let sort = c .before .before .before .before .before .before .before .before .sort in
     let args = c .before .before .before .before .before .before .before .before .before .before .before .before .before .args in
-    c .count-one-by-one .ensures ∙ sort .ensures .pairs-is ∙ pairs-few (now (args .s)) (now (args .places)) (omega arith)
+    c .count-one-by-one .ensures ∙ sort .ensures .pairs-is ∙ pairs-few (now (args .s)) (now (args .marks)) (omega arith)
 
 pub equal-pairs-spec : {M : Type 1} → statement M
 equal-pairs-spec =

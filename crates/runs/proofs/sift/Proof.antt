@@ -9,10 +9,10 @@ use Rattle.runs.proofs.sift.Statement.{statement}
 use Rattle.runs.proofs.sift.Tie as tie
 
 abbrev Inv-loop : tie.InvT-loop
-Inv-loop s places₀ root end at₀ child₀ places at child = Kept s places₀ places × (child ≡ 2 * at + 1)
+Inv-loop s marks₀ root end at₀ child₀ marks at child = Kept s marks₀ marks × (child ≡ 2 * at + 1)
 
 abbrev μ-loop : tie.MeasureT-loop
-μ-loop s places₀ root end at₀ child₀ places at child = end - at
+μ-loop s marks₀ root end at₀ child₀ marks at child = end - at
 
 mul-child : tie.Need-mul-child Inv-loop μ-loop
 mul-child c = omega arith

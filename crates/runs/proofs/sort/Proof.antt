@@ -8,16 +8,16 @@ use Rattle.runs.proofs.sort.Statement.{statement}
 use Rattle.runs.proofs.sort.Tie as tie
 
 abbrev Inv-loop : tie.InvT-loop
-Inv-loop s places₀ end root₀ places root = Kept s places₀ places × (root ≤ end)
+Inv-loop s marks₀ end root₀ marks root = Kept s marks₀ marks × (root ≤ end)
 
 abbrev μ-loop : tie.MeasureT-loop
-μ-loop s places₀ end root₀ places root = root
+μ-loop s marks₀ end root₀ marks root = root
 
 abbrev Inv-loop2 : tie.InvT-loop2
-Inv-loop2 s places₀ end₀ root places end = Kept s places₀ places × (end ≤ length places₀)
+Inv-loop2 s marks₀ end₀ root marks end = Kept s marks₀ marks × (end ≤ length marks₀)
 
 abbrev μ-loop2 : tie.MeasureT-loop2
-μ-loop2 s places₀ end₀ root places end = end
+μ-loop2 s marks₀ end₀ root marks end = end
 
 loop-holds : tie.Need-loop-holds Inv-loop μ-loop Inv-loop2 μ-loop2
 loop-holds c = (kept-same _ _, omega arith)

@@ -1,11 +1,12 @@
 -- Accepted, refused by 13, or refused otherwise.
 use Rattle.paths.proofs.Report.{passed, report-passed, report-stopped}
+use Rattle.paths.proofs.Exact.{meets-both}
 use denote.Ref.{now}
 use mathlib.Core.List.{[]}
 use native.Mathlib.Omega.{arith}
 use borrow.Author.Needs.{needs}
-use Rattle.paths.proofs.path_report.Statement.{statement}
-use Rattle.paths.proofs.path_report.Tie as tie
+use Rattle.paths.proofs.path_repeats.Statement.{statement}
+use Rattle.paths.proofs.path_repeats.Tie as tie
 
 slice-aggregate-decode-entities : tie.Need-slice-aggregate-decode-entities
 slice-aggregate-decode-entities c = search needs
@@ -31,7 +32,8 @@ returns c =
     let start = c .before .before .before .before .before .before .before .before .before .before in
     let bytes = c .before .before .before .before .before .before .before .before .before .shared-slice-known in
     let decode-entities = c .before .before .before .before .before .before .decode-entities in
-    report-stopped (now (start .args .section)) (λ i h. omega (arith, bytes .given i)) [] _ (decode-entities .result) (decode-entities .ensures .0) _ (c .before .before .before .answer .given .1) (c .if1 .taken)
+    meets-both (now (start .args .section)) (λ i h. omega (arith, bytes .given i)) _
+    (report-stopped (now (start .args .section)) (λ i h. omega (arith, bytes .given i)) [] _ (decode-entities .result) (decode-entities .ensures .0) _ (c .before .before .before .answer .given .1) (c .if1 .taken))
 
 count-pairs-requires-2 : tie.Need-count-pairs-requires-2
 count-pairs-requires-2 c κs =
@@ -48,7 +50,8 @@ returns-2 c =
     let start = c .before .before .before .before .before .before .before .before .before .before .before in
     let bytes = c .before .before .before .before .before .before .before .before .before .before .shared-slice-known in
     let decode-entities = c .before .before .before .before .before .before .before .decode-entities in
-    report-passed (now (start .args .section)) (λ i h. omega (arith, bytes .given i)) [] _ (decode-entities .result) (decode-entities .ensures .0) _ (c .before .before .before .before .enum-told .given .1) tt (c .before .before .count-pairs .result) (c .before .before .count-pairs .ensures)
+    meets-both (now (start .args .section)) (λ i h. omega (arith, bytes .given i)) _
+    (report-passed (now (start .args .section)) (λ i h. omega (arith, bytes .given i)) [] _ (decode-entities .result) (decode-entities .ensures .0) _ (c .before .before .before .before .enum-told .given .1) tt (c .before .before .count-pairs .result) (c .before .before .count-pairs .ensures))
 
 same-length-2 : tie.Need-same-length-2
 same-length-2 c = search needs
@@ -59,10 +62,11 @@ returns-3 c =
     let bytes = c .before .before .before .before .before .before .before .before .before .before .before .before .before .shared-slice-known in
     let answer = c .before .before .before .before .before .before .before .answer in
     let decode-entities = c .before .before .before .before .before .before .before .before .before .before .decode-entities in
-    report-passed (now (start .args .section)) (λ i h. omega (arith, bytes .given i)) [] _ (decode-entities .result) (decode-entities .ensures .0) _ (answer .given .1) (c .before .before .before .before .if1 .left) (c .before .before .count-pairs2 .result) (c .before .before .count-pairs2 .ensures)
+    meets-both (now (start .args .section)) (λ i h. omega (arith, bytes .given i)) _
+    (report-passed (now (start .args .section)) (λ i h. omega (arith, bytes .given i)) [] _ (decode-entities .result) (decode-entities .ensures .0) _ (answer .given .1) (c .before .before .before .before .if1 .left) (c .before .before .count-pairs2 .result) (c .before .before .count-pairs2 .ensures))
 
-pub path-report-spec : {M : Type 1} → statement M
-path-report-spec =
+pub path-repeats-spec : {M : Type 1} → statement M
+path-repeats-spec =
     tie.close
     (tie.spec
     slice-aggregate-decode-entities

@@ -2,8 +2,8 @@
 use mathlib.Core.Path.{sym}
 use lib.Seq.{length-take-le}
 use borrow.Author.Needs.{needs}
-use Rattle.cases.proofs.path_report.Statement.{statement}
-use Rattle.cases.proofs.path_report.Tie as tie
+use Rattle.cases.proofs.path_repeats.Statement.{statement}
+use Rattle.cases.proofs.path_repeats.Tie as tie
 
 element-copy-out-wide-number : tie.Need-element-copy-out-wide-number
 element-copy-out-wide-number c = search needs
@@ -20,11 +20,11 @@ returns c = search needs
 array-borrow-prefix-work : tie.Need-array-borrow-prefix-work
 array-borrow-prefix-work c = search needs
 
-slice-aggregate-path-report : tie.Need-slice-aggregate-path-report
-slice-aggregate-path-report c = sym (length-take-le _ _ (search needs))
+slice-aggregate-path-repeats : tie.Need-slice-aggregate-path-repeats
+slice-aggregate-path-repeats c = sym (length-take-le _ _ (search needs))
 
-path-report-requires : tie.Need-path-report-requires
-path-report-requires c κs = search needs
+path-repeats-requires : tie.Need-path-repeats-requires
+path-repeats-requires c κs = search needs
 
 spell-report-requires : tie.Need-spell-report-requires
 spell-report-requires c κs = search needs
@@ -32,8 +32,8 @@ spell-report-requires c κs = search needs
 returns-2 : tie.Need-returns-2
 returns-2 c = search needs
 
-pub path-report-spec : {M : Type 1} → statement M
-path-report-spec =
+pub path-repeats-spec : {M : Type 1} → statement M
+path-repeats-spec =
     tie.close
     (tie.spec
     element-copy-out-wide-number
@@ -41,7 +41,7 @@ path-report-spec =
     bad-case-requires
     returns
     array-borrow-prefix-work
-    slice-aggregate-path-report
-    path-report-requires
+    slice-aggregate-path-repeats
+    path-repeats-requires
     spell-report-requires
     returns-2)

@@ -33,6 +33,12 @@ fn path_alone(path: impl AsRef<[u8]>) -> Entry {
     Entry::default().tag(9).text(b"").text(b"").number(0).text(b"").text(path.as_ref()).tags(&[1, 0])
 }
 
+/// An ord or a hash, kind 6 or 7, with no other text than its path.
+fn ord_or_hash(kind: u8, path: impl AsRef<[u8]>) -> Entry {
+    let named = Entry::default().tag(kind).text(b"").text(b"").number(0);
+    named.text(path.as_ref()).text(b"").text(b"").tags(&[1, 0])
+}
+
 fn one_text(text: Vec<u8>) -> Vec<u8> {
     let mut section = Vec::new();
     schema(&text).add_to(&mut section);
@@ -109,7 +115,7 @@ fn growth() {
     );
 }
 
-/// Prints the time of the path report on `count` entries, of which `pairs` pairs have the same full_path.
+/// Prints the time of the path report on `count` entries, of which `pairs` pairs repeat a path.
 fn report(name: &str, count: usize, pairs: u64, entry: impl Fn(usize) -> Entry) {
     let mut section = Vec::new();
     (0..count).for_each(|i| entry(i).add_to(&mut section));
@@ -138,9 +144,9 @@ fn pairs_of(n: usize) -> u64 {
     (n * n.saturating_sub(1) / 2) as u64
 }
 
-/// The path report on triggers, with work that the crate lends.
+/// The path report on triggers, and on ords and hashes, with work that the crate lends.
 fn paths(all: bool) {
-    println!("\nThe path report on triggers: milliseconds, medians of {PATH_TURNS} turns.\n");
+    println!("\nThe path report on triggers, if nothing else is said: milliseconds, medians of {PATH_TURNS} turns.\n");
     println!("{:48} {:>9} {:>8} {:>13} {:>9}", "full paths", "bytes", "entities", "pairs", "here");
     let most = if all { 100_000 } else { 10_000 };
     for count in [1_000, 10_000, 100_000].into_iter().filter(|&count| count <= most) {
@@ -160,6 +166,10 @@ fn paths(all: bool) {
     report("all different, rising, 4 bytes each", different, 0, |i| path_alone(nth::<4>(i)));
     report("all different, falling, 4 bytes each", different, 0, |i| path_alone(nth::<4>(different - 1 - i)));
     report("all equal, empty", equal, pairs_of(equal), |_| path_alone(b""));
+    // Two kinds
+    let kind = |i: usize| 6 + (i % 2) as u8;
+    report("ords and hashes, two of a path of 3 bytes", 490_000, 0, |i| ord_or_hash(kind(i), scattered::<3>(i / 2)));
+    report("ords and hashes, all paths empty", 540_000, 2 * pairs_of(270_000), |i| ord_or_hash(kind(i), b""));
     // Long texts whose first bytes are the same
     let common = "rehab::exercise::".repeat(15)[..250].to_string();
     let after = |len: usize, end: [u8; 4]| path_alone([&common.as_bytes()[..len], &end].concat());

@@ -224,8 +224,8 @@ void pgrxsc_section_len(const uint32_t *rows, size_t rows_len, const uint8_t *te
  * holds afterwards is left free; it decides what the call costs. Lend a number for each entity that is no schema: len / 27 are
  * always enough, since the entry of such an entity takes 27 bytes or more. Then the paths of n entities are sorted, in n log n
  * comparisons: about a second at most for any section. With fewer numbers the paths are compared pair by pair, and the time
- * grows with the square of n: about a second for 10,000 entities, a minute and a half for 100,000, and the better part of an
- * hour for 600,000.
+ * grows with the square of n: one or two seconds for 10,000 entities of one kind, some minutes for 100,000, and an hour or two
+ * for 600,000.
  */
 uint64_t pgrxsc_path_repeats(const uint8_t *bytes, size_t len, uint32_t *work, size_t work_len, uint64_t answer[4]);
 

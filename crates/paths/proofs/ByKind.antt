@@ -10,13 +10,13 @@ use Rattle.layout.specs.Layout.{Leaf}
 use Rattle.layout.specs.Entities.{valueIn}
 use Rattle.table.specs.Answers.{counted}
 use Rattle.bytes.specs.Bytes.{same}
-use Rattle.section.specs.Derivation.{Derivation, Placed, entitiesOf}
-use Rattle.section.specs.Demand3.{Good}
+use Rattle.section.specs.Derivation.{Placed, entitiesOf}
 use Rattle.runs.specs.Runs.{equals, pairs}
-use Rattle.paths.specs.Paths.{fullPathFields, fieldOf, textField, fullPath, kindAndPath, kindsAndPaths, report}
+use Rattle.paths.specs.Paths.{fullPathFields, fieldOf, fullPath, kindAndPath, kindsAndPaths}
 use Rattle.paths.specs.Private.{pairsWith}
 use Rattle.paths.specs.Theorems.{paths, ofKind, pairsOfKind, Report-at-most, Report-by-kinds}
-use Rattle.paths.proofs.Walk.{equals-append}
+use Rattle.paths.proofs.Walk.{equals-append, front-pairs}
+use Rattle.paths.proofs.Few.{full-path-one, kind-and-path-one}
 use Rattle.paths.proofs.Report.{report-derived}
 
 -- Paths with a kind in front of each
@@ -25,18 +25,10 @@ keyed kind ps = map (λ path. kind ∷ path) ps
 
 -- A path in front of others, if an entity has one
 paths-front : (ls : List Leaf) (us : List (List ℕ)) → pairs (fullPath ls ++ us) ≡ pairsWith (fullPath ls) us + pairs us
-paths-front ls us = go (fieldOf fullPathFields (valueIn ls 0))
-  where
-    go : (i : ℕ) → pairs (textField ls i ++ us) ≡ pairsWith (textField ls i) us + pairs us
-    go zero = omega arith
-    go (suc i) = omega arith
+paths-front ls us = front-pairs (fullPath ls) us (full-path-one ls)
 
 pub keys-front : (ls : List Leaf) (us : List (List ℕ)) → pairs (kindAndPath ls ++ us) ≡ pairsWith (kindAndPath ls) us + pairs us
-keys-front ls us = go (fieldOf fullPathFields (valueIn ls 0))
-  where
-    go : (i : ℕ) → pairs (keyed (valueIn ls 0) (textField ls i) ++ us) ≡ pairsWith (keyed (valueIn ls 0) (textField ls i)) us + pairs us
-    go zero = omega arith
-    go (suc i) = omega arith
+keys-front ls us = front-pairs (kindAndPath ls) us (kind-and-path-one ls)
 
 -- Of one kind or not
 both-most : (b c : Bool) → cond (b && c) 1 0 ≤ cond c 1 0
@@ -135,8 +127,6 @@ no-path ls e us = rw e
 by-kinds : (es : List Placed) → pairs (kindsAndPaths es) ≡ pairsOfKind 2 es + pairsOfKind 3 es + pairsOfKind 4 es + pairsOfKind 5 es + pairsOfKind 6 es + pairsOfKind 7 es + pairsOfKind 8 es + pairsOfKind 9 es
 by-kinds [] = refl
 by-kinds (e ∷ es) =
-    let ls : List Leaf = e .content in
-    let l : ℕ = valueIn ls 0 in
     omega (
       arith,
       at-kind (λ k. pairsWith (fullPath (e .content)) (paths (ofKind k es))) (valueIn (e .content) 0) (λ z. no-path (e .content) z (paths (ofKind (valueIn (e .content) 0) es))),

@@ -23,11 +23,11 @@ use Rattle.section.specs.Demand3.{Good}
 use Rattle.section.proofs.Section.{section-sound}
 use Rattle.section.proofs.Refusals.{refusal-exact}
 use Rattle.section.proofs.Demand3.{refusal-numbered}
-use Rattle.runs.specs.Runs.{equals, pairs}
+use Rattle.runs.specs.Runs.{pairs}
 use Rattle.paths.specs.Paths.{fullPathFields, fieldOf, textField, fullPath, kindAndPath, kindsAndPaths, report}
 use Rattle.paths.specs.Repeats.{Repeat, RepeatsWith, with-none, with-next, without-next, RepeatPairs, no-pairs, more-pairs, ExactReport}
 use Rattle.paths.specs.Private.{pairsWith}
-use Rattle.paths.specs.Theorems.{Report-exact, Report-numbered}
+use Rattle.paths.specs.Theorems.{Schema-alone, Report-exact, Report-numbered}
 use Rattle.paths.proofs.Walk.{equals-append}
 use Rattle.paths.proofs.Report.{report-derived, report-refused}
 use Rattle.paths.proofs.ByKind.{keys-front}
@@ -72,6 +72,11 @@ module _ (e f : List Leaf) where
       (λ p. inr (rw p, count-none (inl p)))
       (λ p. ⊎-elim (λ q. inr (rw (p .1, q), count-none (inr q))) (λ q. count-both (p .0) (q .0) (p .1) (q .1)) (one-or-none f))
       (one-or-none e)
+
+pub schema-alone : Schema-alone
+schema-alone e f k =
+    let none : fullPath e ≡ [] = rw k in
+    (count-none e f (inl none), count-none f e (inr none))
 
 -- The pairs of one entity with others, and of others
 with-append : (ts us vs : List (List ℕ)) → pairsWith ts (us ++ vs) ≡ pairsWith ts us + pairsWith ts vs

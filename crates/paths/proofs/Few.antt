@@ -10,7 +10,7 @@ use borrow.Author.Tests.{eqb-true, eqb-false}
 use Rattle.layout.specs.Layout.{Kind, Leaf, plain, Layout, nothing, one, text, _then_, case, check, fine, unknown-kind, Value, leaves, Proper}
 use Rattle.layout.specs.Written.{width, four, plainBytes, bytesOf, bytes}
 use Rattle.layout.specs.Forms.{known, follows}
-use Rattle.layout.specs.Entities.{OptionStr, ToSqlConfig, Entity, entityKinds, CustomSql, Function, PostgresType, PostgresEnum, OrdOrHash, Aggregate, Trigger}
+use Rattle.layout.specs.Entities.{valueIn, OptionStr, ToSqlConfig, Entity, entityKinds, CustomSql, Function, PostgresType, PostgresEnum, OrdOrHash, Aggregate, Trigger}
 use Rattle.layout.proofs.InBytes.{bytesOf-append}
 use Rattle.section.specs.Derivation.{Item, sentinel, entity, payload, entry, entries, ProperItem, ProperItems, placed}
 use Rattle.section.proofs.Derivation.{leafSize-bytes}
@@ -56,13 +56,18 @@ after-kind (suc (suc (suc (suc (suc (suc (suc (suc (suc zero))))))))) b k n = om
 after-kind (suc (suc (suc (suc (suc (suc (suc (suc (suc (suc m)))))))))) b k n = absurd (kind-above (suc (suc (suc (suc (suc (suc (suc (suc (suc (suc m)))))))))) (omega arith) k)
 
 -- An entity has one full_path at most
-one-path : (ls : List Leaf) (i : ℕ) → length (textField ls i) ≤ 1
-one-path ls zero = omega arith
-one-path ls (suc i) = omega arith
+field-one : (ls : List Leaf) (i : ℕ) → length (textField ls i) ≤ 1
+field-one ls zero = omega arith
+field-one ls (suc i) = omega arith
+
+pub full-path-one : (ls : List Leaf) → length (fullPath ls) ≤ 1
+full-path-one ls = field-one ls (fieldOf fullPathFields (valueIn ls 0))
+
+pub kind-and-path-one : (ls : List Leaf) → length (kindAndPath ls) ≤ 1
+kind-and-path-one ls = omega (arith, full-path-one ls, length-map (fullPath ls) (λ path. valueIn ls 0 ∷ path))
 
 path-length : (kind : ℕ) (ls : List Leaf) → (kind ≡ 1 → length (kindAndPath (plain Kind kind ∷ ls)) ≡ 0) × (length (kindAndPath (plain Kind kind ∷ ls)) ≤ 1)
-path-length kind ls =
-    (λ e. rw e, omega (arith, one-path (plain Kind kind ∷ ls) (fieldOf fullPathFields kind), length-map (fullPath (plain Kind kind ∷ ls)) (λ path. kind ∷ path)))
+path-length kind ls = (λ e. rw e, kind-and-path-one (plain Kind kind ∷ ls))
 
 entity-few : (v : Value Entity) → Proper Entity v → 27 * length (kindAndPath (leaves Entity v)) ≤ 4 + length (bytes Entity v)
 unfolding Entity

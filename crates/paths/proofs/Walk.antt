@@ -125,11 +125,17 @@ pub record Before (s : List ℕ) (at count size : ℕ) : Type 0 where
 pub before-holds : {s : List ℕ} → Rest s 0 → (size : ℕ) → size ≡ numberOr0 s 0 → Before s 0 0 size
 before-holds w size e = record { rest = w; length-is = e; bound = omega arith; sum = λ x. omega (arith, ap pairs (paths-unique x w)) }
 
-pairs-append : (s : List ℕ) (begin : ℕ) (us : List (List ℕ)) → pairs (pathAt s begin ++ us) ≡ pairsWith (pathAt s begin) us + pairs us
+-- The pairs of some lists, with one in front of them or none
+pub front-pairs : (us vs : List (List ℕ)) → length us ≤ 1 → pairs (us ++ vs) ≡ pairsWith us vs + pairs vs
+front-pairs [] vs h = omega arith
+front-pairs (u ∷ []) vs h = omega arith
+front-pairs (u ∷ (v ∷ us)) vs h = absurd (omega arith)
+
+path-one : (s : List ℕ) (begin : ℕ) → length (pathAt s begin) ≤ 1
 unfolding pathAt
-pairs-append s begin us = go (pathMark s begin)
+path-one s begin = go (pathMark s begin)
   where
-    go : (mark : ℕ) → pairs (markedUnless0 s mark ++ us) ≡ pairsWith (markedUnless0 s mark) us + pairs us
+    go : (mark : ℕ) → length (markedUnless0 s mark) ≤ 1
     go zero = omega arith
     go (suc m) = omega arith
 
@@ -144,7 +150,7 @@ module _ {s : List ℕ} {at count size : ℕ} (l : Before s at count size) where
         rest = t .rest;
         length-is = k;
         bound = omega (arith, l .bound, h .small);
-        sum = λ w. l .sum w ∙ rw (t .texts, pairs-append s (at + 4) (pathsOf (t .rest)), h .counts (t .rest)) (omega arith);
+        sum = λ w. l .sum w ∙ rw (t .texts, front-pairs (pathAt s (at + 4)) (pathsOf (t .rest)) (path-one s (at + 4)), h .counts (t .rest)) (omega arith);
       }
 
   pub before-ends : size ≡ 0 → Counts s 0 count

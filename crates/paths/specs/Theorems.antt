@@ -13,7 +13,7 @@ use Rattle.section.specs.Demand3.{Good}
 use Rattle.table.specs.Answers.{counted, uncounted}
 use Rattle.runs.specs.Runs.{pairs}
 use Rattle.paths.specs.Paths.{fullPathFields, fieldOf, fullPath, kindsAndPaths, report}
-use Rattle.paths.specs.Repeats.{ExactReport}
+use Rattle.paths.specs.Repeats.{Repeat, ExactReport}
 
 -- After as many leaves of an entity as `fullPathFields` has for its kind stands a text, and that is its full_path
 pub record PathText (ls : List Leaf) : Type 0 where
@@ -27,6 +27,10 @@ pub record PathText (ls : List Leaf) : Type 0 where
 -- This holds of every entity but a schema: `path-text` in Fields.antt
 abbrev pub Path-text : Type 0
 Path-text = (v : Value Entity) → Proper Entity v → (valueIn (leaves Entity v) 0 ≡ 1 → ⊥) → PathText (leaves Entity v)
+
+-- A schema has no full_path, and so repeats none: `schema-alone` in Exact.antt
+abbrev pub Schema-alone : Type 0
+Schema-alone = (e f : List Leaf) → valueIn e 0 ≡ 1 → (Repeat e f → ⊥) × (Repeat f e → ⊥)
 
 -- The report meets its contract in terms of derivations and of the conditions of refusals: `report-exact` in Exact.antt
 abbrev pub Report-exact : Type 0

@@ -17,9 +17,9 @@ pub enum PathReport {
     Refused(Refusal),
 }
 
-// The number of unordered pairs of entities that repeat a path, since they are of one kind and their full_path bytes agree; or the
-// section's refusal of 1 to 12. The answer does not depend on `work`, and what `work` holds afterwards is free. The section is read
-// through a table without rows, so that 13 only says that it is derived and has leaves.
+// The number of unordered pairs of entities that repeat a path, or the section's refusal of 1 to 12. Two entities repeat a path if
+// they are of one kind and their full_path bytes agree. The answer does not depend on `work`, and what `work` holds afterwards is
+// free. The section is read through a table without rows, so that 13 only says that it is derived and has leaves.
 pub fn path_repeats(section: &[u8], work: &mut [u32]) -> PathReport
     ensures { λ r. ⌜ reportOf r ≡ report (now (section .entry)) ⌝ }
     ensures { λ r. ⌜ ExactReport (now (section .entry)) (reportOf r) ⌝ }

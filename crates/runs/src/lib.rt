@@ -1,5 +1,5 @@
-// Pairs of equal texts of one kind: the marks of the texts are sorted, and runs of equal ones are counted. A mark is a kind and the
-// place of a text in one number.
+// Pairs of equal texts of one kind: the marks of the texts are sorted, and runs of equal ones are counted. A mark is the kind and
+// the place of a text in one number.
 ghost use mathlib.Core.Path.{_≡_};
 ghost use Prim.Native.Nat.{_+_, _/_, _<_, _≤_};
 ghost use lib.ListN.{length, getD, drop};
@@ -8,7 +8,7 @@ ghost use Rattle.bytes.specs.Bytes.{same};
 ghost use Rattle.runs.specs.Runs.{textFrom, kindAndText, kindsAndTexts, equals, pairs, equalPairs};
 ghost use Rattle.runs.specs.Private.{orderOf, kindOrder, swapped, Kept, PairsOf};
 
-// A mark is 256 times the place where the length of a text stands, plus the kind of the text.
+// How many kinds there can be. A mark is this number times the place where the length of a text stands, plus the kind of the text.
 pub const KINDS: u32 = 256;
 
 // The number of pairs of marks with one kind and the same text; 0 if there are more than `layout::LIMIT` marks. In which order the

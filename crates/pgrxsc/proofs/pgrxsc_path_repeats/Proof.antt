@@ -1,6 +1,5 @@
 -- The report, in numbers.
 use mathlib.Core.Path.{ap, _∙_}
-use denote.Ref.{now}
 use borrow.Author.Needs.{needs}
 use Rattle.packing.specs.Numbers.{reportNumbers, pairsIn}
 use Rattle.pgrxsc.proofs.Numbers.{report-told}

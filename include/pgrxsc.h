@@ -78,9 +78,9 @@ extern "C" {
 #endif
 
 /*
- * The version of this header. It grows by one whenever a function, a row or a refusal changes its shape or its meaning or is
- * gone, as when a row gets another number. Header and archive must be of the same version; if they are not, the program may still link. So
- * compare the two before the first other call:
+ * The version of this header. It grows by one whenever a function, a row or a refusal is gone, or changes its shape or its
+ * meaning, as when a row gets another number. Header and archive must be of the same version; if they are not, the program may
+ * still link. So compare the two before the first other call:
  *
  *   if (pgrxsc_version() != PGRXSC_VERSION) ...
  */

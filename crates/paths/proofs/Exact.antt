@@ -1,5 +1,5 @@
 -- The report by derivations and by the conditions of refusals.
-use Prim.Native.Nat.{ℕ, zero, suc, _+_}
+use Prim.Native.Nat.{ℕ, _+_}
 use native.Mathlib.Omega.{arith}
 use mathlib.Core.Bool.{Bool, true, false, cond, _&&_}
 use mathlib.Core.List.{List, [], _∷_, _++_}
@@ -24,21 +24,14 @@ use Rattle.section.proofs.Section.{section-sound}
 use Rattle.section.proofs.Refusals.{refusal-exact}
 use Rattle.section.proofs.Demand3.{refusal-numbered}
 use Rattle.runs.specs.Runs.{pairs}
-use Rattle.paths.specs.Paths.{fullPathFields, fieldOf, textField, fullPath, kindAndPath, kindsAndPaths, report}
+use Rattle.paths.specs.Paths.{fullPath, kindAndPath, kindsAndPaths, report}
 use Rattle.paths.specs.Repeats.{Repeat, RepeatsWith, with-none, with-next, without-next, RepeatPairs, no-pairs, more-pairs, ExactReport}
 use Rattle.paths.specs.Private.{pairsWith}
-use Rattle.paths.specs.Theorems.{Schema-alone, Report-exact, Report-numbered}
+use Rattle.paths.specs.Theorems.{Schema-alone, Repeat-pairs-exact, Report-exact, Report-numbered}
 use Rattle.paths.proofs.Walk.{equals-append}
+use Rattle.paths.proofs.Few.{one-or-none}
 use Rattle.paths.proofs.Report.{report-derived, report-refused}
 use Rattle.paths.proofs.ByKind.{keys-front}
-
--- No full_path, or one
-one-or-none : (ls : List Leaf) → (fullPath ls ≡ []) ⊎ ((t : List ℕ) × (fullPath ls ≡ t ∷ []))
-one-or-none ls = go (fieldOf fullPathFields (valueIn ls 0))
-  where
-    go : (i : ℕ) → (textField ls i ≡ []) ⊎ ((t : List ℕ) × (textField ls i ≡ t ∷ []))
-    go zero = inl refl
-    go (suc i) = inr (_, refl)
 
 nothing-else : {t : List ℕ} → _≡_ {A = List (List ℕ)} [] (t ∷ []) → ⊥
 nothing-else e = let z : _≡_ {A = ℕ} 0 1 = ap length e in omega arith
@@ -113,6 +106,9 @@ pairs-unique : {es : List Placed} {m n : ℕ} → RepeatPairs es m → RepeatPai
 pairs-unique no-pairs no-pairs = refl
 pairs-unique (more-pairs a x) (more-pairs b y) = rw (with-unique a b, pairs-unique x y)
 
+pub repeat-pairs-exact : Repeat-pairs-exact
+repeat-pairs-exact es n = (λ r. pairs-unique r (repeat-pairs es), λ e. rw e (repeat-pairs es))
+
 module _ (s : List ℕ) (u : Bytes s) where
   counted-derived : (n : ℕ) → report s ≡ counted n → (d : Derivation) × Good s d × RepeatPairs (entitiesOf d) n
   counted-derived n e = go (readSection s) refl
@@ -146,7 +142,7 @@ module _ (s : List ℕ) (u : Bytes s) where
 pub report-exact : Report-exact
 report-exact s u =
     record {
-      counts = λ n. (counted-derived s u n, λ c. report-derived s (c .0) (c .1) ∙ ap counted (pairs-unique (repeat-pairs (entitiesOf (c .0))) (c .2)));
+      counts = λ n. (counted-derived s u n, λ c. report-derived s (c .0) (c .1) ∙ ap counted (sym (repeat-pairs-exact (entitiesOf (c .0)) n .0 (c .2))));
       refuses = λ n p. (refused-met s u n p, λ r. report-refused s n p (refusal-exact s u n p .1 r));
     }
 

@@ -3,6 +3,7 @@ use Prim.Native.Nat.{ℕ, zero, suc, _+_, _*_, _≤_}
 use native.Mathlib.Omega.{arith}
 use mathlib.Core.Bool.{Bool, true, false}
 use mathlib.Core.List.{List, [], _∷_, _++_}
+use mathlib.Core.Logic.{_⊎_, inl, inr, ⊎-elim}
 use mathlib.Core.Path.{_≡_, refl, ap}
 use lib.Dec.{eqb}
 use lib.ListN.{length, length-append, length-map, replicate}
@@ -55,13 +56,16 @@ after-kind (suc (suc (suc (suc (suc (suc (suc (suc zero)))))))) b k n = omega (a
 after-kind (suc (suc (suc (suc (suc (suc (suc (suc (suc zero))))))))) b k n = omega (arith, least-bytes Trigger b)
 after-kind (suc (suc (suc (suc (suc (suc (suc (suc (suc (suc m)))))))))) b k n = absurd (kind-above (suc (suc (suc (suc (suc (suc (suc (suc (suc (suc m)))))))))) (omega arith) k)
 
--- An entity has one full_path at most
-field-one : (ls : List Leaf) (i : ℕ) → length (textField ls i) ≤ 1
-field-one ls zero = omega arith
-field-one ls (suc i) = omega arith
+-- An entity has no full_path, or one
+pub one-or-none : (ls : List Leaf) → (fullPath ls ≡ []) ⊎ ((t : List ℕ) × (fullPath ls ≡ t ∷ []))
+one-or-none ls = go (fieldOf fullPathFields (valueIn ls 0))
+  where
+    go : (i : ℕ) → (textField ls i ≡ []) ⊎ ((t : List ℕ) × (textField ls i ≡ t ∷ []))
+    go zero = inl refl
+    go (suc i) = inr (_, refl)
 
 pub full-path-one : (ls : List Leaf) → length (fullPath ls) ≤ 1
-full-path-one ls = field-one ls (fieldOf fullPathFields (valueIn ls 0))
+full-path-one ls = ⊎-elim (λ p. omega (arith, ap length p)) (λ p. omega (arith, ap length (p .1))) (one-or-none ls)
 
 pub kind-and-path-one : (ls : List Leaf) → length (kindAndPath ls) ≤ 1
 kind-and-path-one ls = omega (arith, full-path-one ls, length-map (fullPath ls) (λ path. valueIn ls 0 ∷ path))

@@ -2,6 +2,7 @@
 use Prim.Native.Nat.{ℕ, _+_, _*_, _≤_}
 use mathlib.Core.Bool.{cond}
 use mathlib.Core.List.{List, [], _∷_, _++_}
+use mathlib.Core.Logic.{_↔_}
 use mathlib.Core.Path.{_≡_}
 use lib.Dec.{eqb}
 use lib.ListN.{length}
@@ -13,7 +14,7 @@ use Rattle.section.specs.Demand3.{Good}
 use Rattle.table.specs.Answers.{counted, uncounted}
 use Rattle.runs.specs.Runs.{pairs}
 use Rattle.paths.specs.Paths.{fullPathFields, fieldOf, fullPath, kindsAndPaths, report}
-use Rattle.paths.specs.Repeats.{Repeat, ExactReport}
+use Rattle.paths.specs.Repeats.{Repeat, RepeatPairs, ExactReport}
 
 -- After as many leaves of an entity as `fullPathFields` has for its kind stands a text, and that is its full_path
 pub record PathText (ls : List Leaf) : Type 0 where
@@ -31,6 +32,10 @@ Path-text = (v : Value Entity) → Proper Entity v → (valueIn (leaves Entity v
 -- A schema has no full_path, and so repeats none: `schema-alone` in Exact.antt
 abbrev pub Schema-alone : Type 0
 Schema-alone = (e f : List Leaf) → valueIn e 0 ≡ 1 → (Repeat e f → ⊥) × (Repeat f e → ⊥)
+
+-- `RepeatPairs` holds of one number for some entities, which is that of the report: `repeat-pairs-exact` in Exact.antt
+abbrev pub Repeat-pairs-exact : Type 0
+Repeat-pairs-exact = (es : List Placed) (n : ℕ) → RepeatPairs es n ↔ (n ≡ pairs (kindsAndPaths es))
 
 -- The report meets its contract in terms of derivations and of the conditions of refusals: `report-exact` in Exact.antt
 abbrev pub Report-exact : Type 0

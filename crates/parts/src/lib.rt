@@ -2,6 +2,7 @@
 use layout::LIMIT;
 use table::Refusal;
 use table::Row;
+use text::State;
 ghost use mathlib.Core.Path.{_≡_};
 ghost use Prim.Native.Nat.{_+_, _<_, _≤_};
 ghost use lib.ListN.{length, drop};
@@ -19,23 +20,13 @@ pub enum TextPlace {
 pub fn place_row_text(section: &[u8], row: Row) -> TextPlace
     ensures { λ r. ⌜ foundPart r ≡ rowText (now (section .entry)) row ⌝ }
 {
-    if LIMIT < section.len() {
-        return no_place(1);
-    }
-    if row.sort != layout::SORT_TEXT {
-        return no_place(15);
-    }
-    let start = row.offset as usize;
-    let len = row.value as usize;
-    if section.len() < start {
-        return no_place(15);
-    }
-    if section.len() - start < len {
-        return no_place(15);
-    }
+    let found = place_bytes(section, row);
+    let TextPlace::Section { start, len } = found else {
+        return found;
+    };
     let end = start + len;
     if text::is_utf8(&section[start..end]) {
-        return TextPlace::Section { start, len };
+        return found;
     }
     no_place(15)
 }
@@ -59,18 +50,97 @@ pub fn row_text<'a>(section: &'a [u8], row: Row, number: &mut u32, place: &mut u
 
 // Where the SQL name of a declaration is, from the row of the declaration's name.
 pub fn place_sql_name(section: &[u8], row: Row) -> TextPlace
-    ensures { λ r. ⌜ foundPart r ≡ sqlNameIn (now (section .entry)) (rowText (now (section .entry)) row) ⌝ }
 {
-    let found = place_row_text(section, row);
+    let found = place_bytes(section, row);
     let TextPlace::Section { start, len } = found else {
         return found;
     };
     let end = start + len;
-    let before = last_start(&section[start..end]);
+    let answer = name_start(&section[start..end]);
+    let NameStart::At { start: before } = answer else {
+        return no_place(15);
+    };
     TextPlace::Section {
         start: start + before,
         len: len - before,
     }
+}
+
+pub enum NameStart {
+    At { start: usize },
+    NotUtf8,
+}
+
+pub fn name_start(name: &[u8]) -> NameStart {
+    NameWalk::new().walk(name).answer()
+}
+
+pub struct NameWalk {
+    pub state: State,
+    pub opened: bool,
+    pub start: usize,
+    pub seen: usize,
+}
+
+impl NameWalk {
+    pub fn new() -> NameWalk {
+        NameWalk {
+            state: State::Start,
+            opened: false,
+            start: 0,
+            seen: 0,
+        }
+    }
+
+    pub fn walk(self, bytes: &[u8]) -> NameWalk {
+        let w = text::walk_colons(self.state, self.opened, bytes);
+        let mut start = self.start;
+        if 0 < w.end {
+            start = add(self.seen, w.end);
+        }
+        NameWalk {
+            state: w.state,
+            opened: w.opened,
+            start,
+            seen: add(self.seen, bytes.len()),
+        }
+    }
+
+    pub fn answer(self) -> NameStart {
+        let q = self.state;
+        match q {
+            State::Start => NameStart::At { start: self.start },
+            _ => NameStart::NotUtf8,
+        }
+    }
+}
+
+fn add(a: usize, b: usize) -> usize {
+    if MOST - a < b {
+        return MOST;
+    }
+    a + b
+}
+
+const MOST: usize = 18446744073709551615;
+
+fn place_bytes(section: &[u8], row: Row) -> TextPlace
+{
+    if LIMIT < section.len() {
+        return no_place(1);
+    }
+    if row.sort != layout::SORT_TEXT {
+        return no_place(15);
+    }
+    let start = row.offset as usize;
+    let len = row.value as usize;
+    if section.len() < start {
+        return no_place(15);
+    }
+    if section.len() - start < len {
+        return no_place(15);
+    }
+    TextPlace::Section { start, len }
 }
 
 // The SQL name of a declaration, a part of the section, from the row of the declaration's name.
@@ -105,31 +175,3 @@ fn part_at<'a>(section: &'a [u8], found: TextPlace, number: &mut u32, place: &mu
     }
 }
 
-// Where the SQL name begins in a name: after the last `::`.
-fn last_start(name: &[u8]) -> usize
-    ensures { λ r. ⌜ (r ≤ length (now (name .entry))) × (drop r (now (name .entry)) ≡ sqlName (now (name .entry))) ⌝ }
-{
-    let n = name.len();
-    let mut start = 0;
-    let mut i = 0;
-    while 1 < n - i {
-        if colons_at(name, i) {
-            i += 2;
-            start = i;
-        } else {
-            i += 1;
-        }
-    }
-    start
-}
-
-fn colons_at(s: &[u8], at: usize) -> bool
-    requires { ⌜ at + 1 < length (now s) ⌝ }
-    ensures { λ r. ⌜ r ≡ colonsAt (now (s .entry)) at ⌝ }
-{
-    let next = at + 1;
-    if s[at] == b':' {
-        return s[next] == b':';
-    }
-    false
-}

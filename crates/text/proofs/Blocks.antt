@@ -22,6 +22,10 @@ ascii-join s a m b e h f g k l u = go (ltb k m) refl
     go true t = f k l (ltb-true k m t)
     go false t = g k (omega (arith, ltb-false k m t)) u
 
+-- One byte more
+pub ascii-more : (s : List ℕ) (a i : ℕ) → Ascii s a i → getD s i 0 < 128 → Ascii s a (i + 1)
+ascii-more s a i f h = ascii-join s a i i (i + 1) (omega arith) f (λ k l u. let e : k ≡ i = omega arith in rw e h)
+
 -- Where nothing is wanted before ASCII, nothing is wanted after it
 ascii-steps : (s : List ℕ) (p : State) (a d : ℕ) → a + d ≤ length s → Ascii s a (a + d) → wantedAfter p (take a s) ≡ start → wantedAfter p (take (a + d) s) ≡ start
 ascii-steps s p a zero h f q = rw add-zero q
@@ -38,6 +42,12 @@ ascii-runs s p a e h l f q =
 -- A walk passes over ASCII in the state 0
 pub passed : (s : List ℕ) (a e x : ℕ) → a ≤ e → e ≤ length s → x ≡ 0 → Ascii s a e → Reaches s a e x x
 passed s a e x h l z f p q = z ∙ sym (ap code (ascii-runs s p a e h l f (code-injective (wantedAfter p (take a s)) start (sym q ∙ z))))
+
+-- A state in which nothing is wanted stays the same over ASCII
+pub stays : (s : List ℕ) (p q : State) (a e : ℕ) → a ≤ e → e ≤ length s → Ascii s a e → code q ≡ 0 → q ≡ wantedAfter p (take a s) → q ≡ wantedAfter p (take e s)
+stays s p q a e h l f z w =
+    let n : q ≡ start = code-injective q start z in
+    n ∙ sym (ascii-runs s p a e h l f (sym w ∙ n))
 
 -- A text of ASCII is UTF-8
 pub ascii-utf8 : (s : List ℕ) → Ascii s 0 (length s) → true ≡ utf8 s

@@ -1,4 +1,4 @@
--- The codes of the states, and one iteration of the walk's loop.
+-- The codes of the states, and one iteration of a walk's loop.
 use Prim.Native.Nat.{ℕ, _+_, _<_, _%_, _/_, _^_}
 use native.Mathlib.Numerals.{add-one}
 use mathlib.Core.Bool.{true}
@@ -6,10 +6,10 @@ use mathlib.Core.Path.{_≡_, refl, sym, ap, _∙_}
 use mathlib.Core.List.{List, [], _∷_}
 use lib.Dec.{ltb, eqb}
 use lib.ListN.{length, take, getD}
-use lib.Seq.{take-suc}
+use lib.Seq.{take-suc, take-length}
 use borrow.Author.Tests.{ltb-true}
 use Rattle.text.specs.Walk.{State, start, tail-1, tail-2, tail-3, after-E0, after-ED, after-F0, after-F4, failed, step, wantedAfter, accepting}
-use Rattle.text.specs.Private.{code, Encodes}
+use Rattle.text.specs.Private.{code, Encodes, Follows}
 use Rattle.text.proofs.Exact.{wanted-append}
 
 -- The states in the order of their codes
@@ -47,8 +47,14 @@ code-injective p q e = sym (numbered-code p) ∙ ap (λ (n : ℕ). numbered (n /
 pub run-snoc : (p : State) (s : List ℕ) (i : ℕ) → i < length s → wantedAfter p (take (i + 1) s) ≡ step (wantedAfter p (take i s)) (getD s i 0)
 run-snoc p s i h = rw (add-one, take-suc s i 0, wanted-append)
 
--- One iteration: the row of the byte's class, shifted to the place of the state, begins with the next state
-pub turn : {classes rows : List ℕ} → Encodes classes rows → (s : List ℕ) (i x : ℕ) (p : State) → i < length s → getD s i 0 < 256
-    → x % 64 ≡ code (wantedAfter p (take i s))
-    → getD rows (getD classes (getD s i 0) 0) 0 / 2 ^ (x % 64) % 64 ≡ code (wantedAfter p (take (i + 1) s))
-turn d s i x p h b e = rw (e, run-snoc p s i h) (d .right (wantedAfter p (take i s)) (getD s i 0) b)
+-- The row of the byte's class, shifted to the place of the state, begins with the next state
+pub turn : {classes rows : List ℕ} → Encodes classes rows → (x b : ℕ) → b < 256 → Follows x b (getD rows (getD classes b 0) 0 / 2 ^ (x % 64))
+turn d x b h p e = rw e (d .right p b h)
+
+-- One iteration
+pub walked : (p : State) (s : List ℕ) (i x r : ℕ) → i < length s → Follows x (getD s i 0) r
+    → x % 64 ≡ code (wantedAfter p (take i s)) → r % 64 ≡ code (wantedAfter p (take (i + 1) s))
+walked p s i x r h f e = rw (run-snoc p s i h) (f (wantedAfter p (take i s)) e)
+
+pub ended : (p : State) (s : List ℕ) (i x : ℕ) → i ≡ length s → x % 64 ≡ code (wantedAfter p (take i s)) → x % 64 ≡ code (wantedAfter p s)
+ended p s i x e h = rw (e, take-length s) at h

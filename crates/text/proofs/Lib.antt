@@ -3,3 +3,4 @@ pub mod Codes
 pub mod Table
 pub mod Blocks
 pub mod Words
+pub mod Pairs

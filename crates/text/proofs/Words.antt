@@ -43,9 +43,16 @@ above k {s} {a} {m} {e} {j} {h} {g} {x} {y} l p q =
       ascii = λ z. ascii-join s a m m e (omega arith) (p .ascii (omega (arith, b, z))) (q .ascii (omega (arith, b, z, mul-le-mul-left (bitAnd y g) (pow-pos k))));
     }
 
+-- No number is above the bitwise or of itself and another
+pub or-l : (x y : ℕ) → x ≤ bitOr x y
+or-l x y = omega (arith, or-add-and x y, and-le-r x y)
+
+pub or-r : (x y : ℕ) → y ≤ bitOr x y
+or-r x y = omega (arith, or-add-and x y, and-le-l x y)
+
 -- If the bitwise or is 0, so are both numbers
 pub or-none : (x y : ℕ) → bitOr x y ≡ 0 → (x ≡ 0) × (y ≡ 0)
-or-none x y e = (omega (arith, e, or-add-and x y, and-le-r x y), omega (arith, e, or-add-and x y, and-le-l x y))
+or-none x y e = (omega (arith, e, or-l x y), omega (arith, e, or-r x y))
 
 -- Two parts that meet or overlap, from the bits of both
 pub ascii-ends : (s : List ℕ) (a m b e x y : ℕ) → b ≤ m → (x ≡ 0 → Ascii s a m) → (y ≡ 0 → Ascii s b e) → bitOr x y ≡ 0 → Ascii s a e

@@ -5,9 +5,10 @@ ghost use mathlib.Core.Logic.{_↔_};
 ghost use Prim.Native.Nat.{_+_, _<_, _≤_};
 ghost use lib.ListN.{length};
 ghost use Rattle.text.specs.Rfc3629.{Utf8};
-ghost use Rattle.text.specs.Walk.{wantedAfter, utf8};
+ghost use Rattle.text.specs.Walk.{step, wantedAfter, utf8};
 ghost use Rattle.text.specs.States.{stateOf};
-ghost use Rattle.text.specs.Private.{code, Encodes, Reaches, Decodes, Ascii, Packs};
+ghost use Rattle.text.specs.Colons.{unwalked, pairsAfter};
+ghost use Rattle.text.specs.Private.{code, Encodes, Follows, Reaches, Decodes, Ascii, Packs, Leads, Completes};
 
 mod tables;
 
@@ -26,6 +27,20 @@ pub enum State {
     AfterF0,
     AfterF4,
     Wrong,
+}
+
+// Where a walk stands that also finds the pairs of colons: its state; whether a pair is open, which the next byte closes if it is
+// a colon; and where the last pair ended, 0 if there was none.
+pub struct ColonWalk {
+    pub state: State,
+    pub opened: bool,
+    pub end: usize,
+}
+
+// How far a walk has come that has no pair open, and where the last pair ended.
+struct Passed {
+    at: usize,
+    end: usize,
 }
 
 // The state Start, as a walk holds it.
@@ -54,6 +69,146 @@ pub fn walk(q: State, s: &[u8]) -> State
     ensures { λ r. ⌜ stateOf r ≡ wantedAfter (stateOf q) (now (s .entry)) ⌝ }
 {
     state_of(walk_from(s, 0, code_of(q)))
+}
+
+// The same walk, which also finds the pairs of colons, from the left without overlap. It begins with a pair open or not, and it
+// goes from left to right once.
+pub fn walk_colons(q: State, opened: bool, s: &[u8]) -> ColonWalk
+    ensures { λ r. ⌜ stateOf (r .state) ≡ wantedAfter (stateOf q) (now (s .entry)) ⌝ }
+    ensures { λ r. ⌜ r .opened ≡ pairsAfter (unwalked opened) (now (s .entry)) .opened ⌝ }
+    ensures { λ r. ⌜ r .end ≡ pairsAfter (unwalked opened) (now (s .entry)) .end ⌝ }
+{
+    let n = s.len();
+    if n == 0 {
+        return ColonWalk {
+            state: q,
+            opened,
+            end: 0,
+        };
+    }
+    if opened && s[0] == b':' {
+        return walk_pairs(after_colon(q), s, 1);
+    }
+    walk_pairs(q, s, 0)
+}
+
+// The state after a colon, which is a character by itself and part of no other.
+fn after_colon(q: State) -> State
+    ensures { λ r. ⌜ stateOf r ≡ step (stateOf q) 0x3A ⌝ }
+{
+    if code_of(q) == START {
+        return q;
+    }
+    State::Wrong
+}
+
+// The walk over s from a on. No pair is open there, and the last one ended there, or a is 0.
+fn walk_pairs(q: State, s: &[u8], a: usize) -> ColonWalk
+    requires { ⌜ a ≤ length (now s) ⌝ }
+    ensures { λ r. ⌜ Completes (now (s .entry)) a a (stateOf q) r ⌝ }
+{
+    let n = s.len();
+    if code_of(q) != START {
+        return walk_pairs_from(q, s, Passed { at: a, end: a });
+    }
+    let p = ascii_pairs(s, a);
+    let at = p.at;
+    if at == n {
+        return ColonWalk {
+            state: q,
+            opened: false,
+            end: p.end,
+        };
+    }
+    if n - at == 1 && s[at] < 128 {
+        return ColonWalk {
+            state: q,
+            opened: s[at] == b':',
+            end: p.end,
+        };
+    }
+    walk_pairs_from(q, s, p)
+}
+
+// As much of this walk as two bytes at a time show to be ASCII.
+fn ascii_pairs(s: &[u8], a: usize) -> Passed
+    requires { ⌜ a ≤ length (now s) ⌝ }
+    ensures { λ r. ⌜ (a ≤ r .at) × (r .at ≤ length (now (s .entry))) ⌝ }
+    ensures { λ r. ⌜ Ascii (now (s .entry)) a (r .at) ⌝ }
+    ensures { λ r. ⌜ Leads (now (s .entry)) a a (r .at) (r .end) ⌝ }
+{
+    let n = s.len();
+    let mut i = a;
+    let mut end = a;
+    while 1 < n - i {
+        let j = i + 1;
+        if 128 <= s[i] | s[j] {
+            return Passed { at: i, end };
+        }
+        if s[j] != b':' {
+            i += 2;
+        } else if s[i] == b':' {
+            i += 2;
+            end = i;
+        } else {
+            i += 1;
+        }
+    }
+    Passed { at: i, end }
+}
+
+// The rest of this walk. Each call builds the tables on its stack.
+fn walk_pairs_from(q: State, s: &[u8], p: Passed) -> ColonWalk
+    requires { ⌜ p .at ≤ length (now s) ⌝ }
+    ensures { λ r. ⌜ Completes (now (s .entry)) (p .at) (p .end) (stateOf q) r ⌝ }
+{
+    walk_pairs_by(&CLASS, &NEXT, q, s, p)
+}
+
+// The same, with the tables.
+fn walk_pairs_by(class: &[u8; 256], next: &[u64; 12], q: State, s: &[u8], p: Passed) -> ColonWalk
+    requires { ⌜ Encodes (now class) (now next) ⌝ }
+    requires { ⌜ p .at ≤ length (now s) ⌝ }
+    ensures { λ r. ⌜ Completes (now (s .entry)) (p .at) (p .end) (stateOf q) r ⌝ }
+{
+    let n = s.len();
+    let mut x = code_of(q);
+    let mut i = p.at;
+    let mut end = p.end;
+    while i < n {
+        let c = s[i];
+        x = next_of(class, next, x, c);
+        i += 1;
+        if c == b':' {
+            if i == n {
+                return ColonWalk {
+                    state: state_of(x % 64),
+                    opened: true,
+                    end,
+                };
+            }
+            let d = s[i];
+            x = next_of(class, next, x, d);
+            i += 1;
+            if d == b':' {
+                end = i;
+            }
+        }
+    }
+    ColonWalk {
+        state: state_of(x % 64),
+        opened: false,
+        end,
+    }
+}
+
+// What a walk that holds x holds after the byte b: the next state, in the lowest six bits.
+fn next_of(class: &[u8; 256], next: &[u64; 12], x: u64, b: u8) -> u64
+    requires { ⌜ Encodes (now class) (now next) ⌝ }
+    ensures { λ r. ⌜ Follows x b r ⌝ }
+{
+    let k = class[b as usize] as usize;
+    next[k] >> (x % 64)
 }
 
 // The walk over s from a on, from the state held as q. Each call builds the tables on its stack.
@@ -92,8 +247,7 @@ fn walk_bytes(class: &[u8; 256], next: &[u64; 12], s: &[u8], a: usize, e: usize,
     let mut x = q;
     let mut i = a;
     while i < e {
-        let k = class[s[i] as usize] as usize;
-        x = next[k] >> (x % 64);
+        x = next_of(class, next, x, s[i]);
         i += 1;
     }
     x % 64

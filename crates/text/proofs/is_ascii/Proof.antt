@@ -4,18 +4,13 @@ use native.Mathlib.Nat.{le-trans, lt-of-le-of-lt}
 use native.Mathlib.Omega.{arith}
 use mathlib.Core.List.{List}
 use lib.ListN.{getD}
-use lib.Bits.{bitOr, or-add-and, and-le-l, and-le-r}
+use lib.Bits.{bitOr}
 use borrow.Author.Tests.{ltb-true}
 use borrow.Author.Needs.{needs}
 use borrow.Author.Count.{below-more}
+use Rattle.text.proofs.Words.{or-l, or-r}
 use Rattle.text.proofs.is_ascii.Statement.{statement}
 use Rattle.text.proofs.is_ascii.Tie as tie
-
-or-l : (a b : ℕ) → a ≤ bitOr a b
-or-l a b = omega (arith, or-add-and a b, and-le-r a b)
-
-or-r : (a b : ℕ) → b ≤ bitOr a b
-or-r a b = omega (arith, or-add-and a b, and-le-l a b)
 
 gathered : (s : List ℕ) (a i bits : ℕ) → ((k : ℕ) → a ≤ k → k < i → getD s k 0 ≤ bits) → (k : ℕ) → a ≤ k → k < i + 1 → getD s k 0 ≤ bitOr bits (getD s i 0)
 gathered s a i bits all k l u =

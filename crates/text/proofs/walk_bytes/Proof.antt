@@ -1,12 +1,12 @@
 -- The low six bits of x are the code of the state after the first i bytes.
-use Prim.Native.Nat.{ℕ, _≤_, _<_, _-_, _%_}
+use Prim.Native.Nat.{ℕ, _≤_, _-_, _%_}
 use native.Mathlib.Omega.{arith}
 use mathlib.Core.Path.{_≡_, ap, _∙_}
-use lib.ListN.{take, getD}
+use lib.ListN.{take}
 use borrow.Author.Needs.{needs}
 use Rattle.text.specs.Private.{code}
 use Rattle.text.specs.Walk.{State, wantedAfter}
-use Rattle.text.proofs.Codes.{code-low, turn}
+use Rattle.text.proofs.Codes.{code-low, walked}
 use Rattle.text.proofs.walk_bytes.Statement.{statement}
 use Rattle.text.proofs.walk_bytes.Tie as tie
 
@@ -16,33 +16,14 @@ Inv-loop class next s a e q x₀ i₀ x i = (i ≤ e) × ((p : State) → q ≡ 
 abbrev μ-loop : tie.MeasureT-loop
 μ-loop class next s a e q x₀ i₀ x i = e - i
 
--- the class of the byte that is read
-class-small : (c : tie.After-k Inv-loop μ-loop) → getD (c .before .before .before .before .args .class .now) (getD (c .before .before .before .before .args .s .now) (c .before .before .before .loop .i) 0) 0 < 12
-class-small c = c .before .before .before .before .pre .0 .small _ (omega (arith, c .before .shared-slice-known .given (c .before .before .before .loop .i)))
-
 loop-holds : tie.Need-loop-holds Inv-loop μ-loop
-loop-holds c = (search needs, λ p e. ap (λ (n : ℕ). n % 64) e ∙ code-low (wantedAfter p (take (c .args .a) (c .args .s .now))))
+loop-holds c = (search needs, λ p e. ap (λ (n : ℕ). n % 64) e ∙ code-low (wantedAfter p (take (c .before .args .a) (c .before .args .s .now))))
 
-shared-slice-read-k : tie.Need-shared-slice-read-k Inv-loop μ-loop
-shared-slice-read-k c = search needs
+shared-slice-read-next-of : tie.Need-shared-slice-read-next-of Inv-loop μ-loop
+shared-slice-read-next-of c = search needs
 
-cast-k : tie.Need-cast-k Inv-loop μ-loop
-cast-k c = omega (arith, c .shared-slice-known .given (c .before .before .loop .i))
-
-element-copy-out-k : tie.Need-element-copy-out-k Inv-loop μ-loop
-element-copy-out-k c = omega (arith, c .shared-slice-known .given (c .before .before .loop .i))
-
-cast-k-2 : tie.Need-cast-k-2 Inv-loop μ-loop
-cast-k-2 c = omega (arith, class-small c)
-
-mul-x : tie.Need-mul-x Inv-loop μ-loop
-mul-x c = omega (arith, class-small c)
-
-element-copy-out-x : tie.Need-element-copy-out-x Inv-loop μ-loop
-element-copy-out-x c = class-small c
-
-shr-x : tie.Need-shr-x Inv-loop μ-loop
-shr-x c = search needs
+next-of-requires : tie.Need-next-of-requires Inv-loop μ-loop
+next-of-requires c κs = c .before .before .before .before .pre .0
 
 add-i : tie.Need-add-i Inv-loop μ-loop
 add-i c = search needs
@@ -52,14 +33,12 @@ loop-less c = search needs
 
 loop-again : tie.Need-loop-again Inv-loop μ-loop
 loop-again c =
-    let b = c .before .before in
-    let s = b .before .before .before .args .s .now in
-    let i = b .before .before .loop .i in
-    (search needs, λ p e. turn (b .before .before .before .pre .0) s i (b .before .before .loop .x) p (search needs) (omega (arith, b .shared-slice-known .given i)) (b .before .before .loop .inv .1 p e))
+    let loop = c .before .before .before .loop in
+    (search needs, λ p e. walked p (c .before .before .before .before .before .args .s .now) (loop .i) (loop .x) _ (search needs) (c .next-of .ensures) (loop .inv .1 p e))
 
 returns : tie.Need-returns Inv-loop μ-loop
 returns c =
-    let at : c .before .loop .i ≡ c .before .before .args .e = omega arith in
+    let at : c .before .loop .i ≡ c .before .before .before .args .e = omega arith in
     λ p e. rw (← at) (c .before .loop .inv .1 p e)
 
 pub walk-bytes-spec : {M : Type 1} → statement M
@@ -69,13 +48,8 @@ walk-bytes-spec =
     Inv-loop
     μ-loop
     loop-holds
-    shared-slice-read-k
-    cast-k
-    element-copy-out-k
-    cast-k-2
-    mul-x
-    element-copy-out-x
-    shr-x
+    shared-slice-read-next-of
+    next-of-requires
     add-i
     loop-less
     loop-again

@@ -1,2 +1,3 @@
 pub mod RowText
 pub mod SqlName
+pub mod Names

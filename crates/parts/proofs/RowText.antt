@@ -14,12 +14,15 @@ use Rattle.layout.specs.Reading.{Outcome, ok, refuse, _>>=_, need, utf8, enough
 use Rattle.layout.specs.Answers.{limit}
 use Rattle.layout.proofs.Equations.{read-text}
 use Rattle.table.specs.declared.Row.{Row}
+use Rattle.table.specs.declared.Refusal.{Refusal}
 use Rattle.parts.specs.declared.TextPlace.{TextPlace}
 use Rattle.parts.specs.declared.TextPlace.the-variants.{Section, Refused}
-use Rattle.parts.specs.Parts.{rowText, numberIn, foundPart}
-use Rattle.parts.specs.Private.{LiesIn}
+use Rattle.parts.specs.Parts.{between, rowText, numberIn, foundPart}
+use Rattle.parts.specs.Private.{LiesIn, Untested}
 use Rattle.parts.specs.Theorems.{Row-lies, Row-part}
+use Rattle.text.specs.Rfc3629.{Utf8}
 use Rattle.text.specs.Walk as automaton
+use Rattle.text.proofs.Exact.{utf8-exact}
 
 module _ (s : List ℕ) (row : Row) where
   pub long : limit < length s → rowText s row ≡ refuse 1 0
@@ -36,14 +39,29 @@ module _ (s : List ℕ) (row : Row) where
       unfolding rowText
       outside h = rw (le-leb (length s) limit small, eq-eqb (row .sort) textSort z, lt-leb (row .offset + row .value) (length s) h)
 
-      module _ (h : row .offset + row .value ≤ length s) (x : ℕ) (q : x ≡ row .value) where
-        pub not-utf8 : automaton.utf8 (take x (drop (row .offset) s)) ≡ false → rowText s row ≡ refuse 15 0
-        unfolding rowText utf8
-        not-utf8 u = rw (le-leb (length s) limit small, eq-eqb (row .sort) textSort z, le-leb (row .offset + row .value) (length s) h, ← q, u)
+      pub inside : row .offset + row .value ≤ length s → Untested s row (ok (row .offset) (row .offset + row .value))
+      unfolding rowText
+      inside h =
+          let n : row .offset + row .value - row .offset ≡ row .value = omega arith in
+          (omega arith, h, rw (le-leb (length s) limit small, eq-eqb (row .sort) textSort z, le-leb (row .offset + row .value) (length s) h, n))
 
-        pub is-text : automaton.utf8 (take x (drop (row .offset) s)) ≡ true → rowText s row ≡ ok (row .offset) (row .offset + row .value)
-        unfolding rowText utf8
-        is-text u = rw (le-leb (length s) limit small, eq-eqb (row .sort) textSort z, le-leb (row .offset + row .value) (length s) h, ← q, u)
+  -- What is still to be tested
+  module _ (start end : ℕ) (u : Untested s row (ok start end)) where
+    pub is-text : Utf8 (between s start end) → rowText s row ≡ ok start end
+    unfolding utf8
+    is-text t = u .2 ∙ rw (utf8-exact (between s start end) .1 t)
+
+    pub not-text : (Utf8 (between s start end) → ⊥) → rowText s row ≡ refuse 15 0
+    unfolding utf8
+    not-text n = u .2 ∙ go (automaton.utf8 (between s start end)) refl
+      where
+        go : (t : Bool) → automaton.utf8 (between s start end) ≡ t → need t 15 0 (ok start end) ≡ refuse 15 0
+        go true t = absurd (n (utf8-exact (between s start end) .0 t))
+        go false t = refl
+
+  -- A refusal is that of the row
+  pub refused : (p : TextPlace) (refusal : Refusal) → Untested s row (foundPart p) → p ≡ Refused refusal → rowText s row ≡ refuse (refusal .number) (refusal .place)
+  refused p refusal u e = rw e at u
 
   -- A row that is not refused
   pub accepted : numberIn (rowText s row) ≡ 0 → (row .offset + row .value ≤ length s) × (rowText s row ≡ ok (row .offset) (row .offset + row .value))

@@ -14,34 +14,12 @@ use Rattle.parts.specs.declared.TextPlace.{TextPlace}
 use Rattle.parts.specs.declared.TextPlace.the-variants.{Section, Refused}
 use Rattle.parts.specs.Parts.{between, rowText, partOf, numberIn, placeIn, colon, afterLast, sqlName, sqlNameIn, foundPart}
 use Rattle.parts.specs.Theorems.{Name-end, Name-part, Name-cases}
-use Rattle.parts.specs.Private.{LiesIn, colonsAt}
+use Rattle.parts.specs.Private.{LiesIn}
 use Rattle.parts.proofs.RowText.{row-lies}
 
--- Two bytes at a place, and what follows them
-two-at : (s : List ℕ) (i : ℕ) → i + 1 < length s → drop i s ≡ getD s i 0 ∷ getD s (i + 1) 0 ∷ drop (i + 2) s
-two-at s i h =
-    let a : suc i ≡ i + 1 = omega arith in
-    let b : suc (i + 1) ≡ i + 2 = omega arith in
-    drop-cons s i 0 (omega arith) ∙ rw (a, drop-cons s (i + 1) 0 (omega arith), b)
-
-module _ (s last : List ℕ) (i : ℕ) where
-  pub at-match : i + 1 < length s → colonsAt s i ≡ true → afterLast last (drop i s) ≡ afterLast (drop (i + 2) s) (drop (i + 2) s)
-  at-match h e = rw (two-at s i h, e)
-
-  pub at-other : i + 1 < length s → colonsAt s i ≡ false → afterLast last (drop i s) ≡ afterLast last (drop (i + 1) s)
-  at-other h e =
-      let a : i + 2 ≡ suc (i + 1) = omega arith in
-      let q : getD s (i + 1) 0 ∷ drop (i + 2) s ≡ drop (i + 1) s = rw a (sym (drop-cons s (i + 1) 0 h)) in
-      ap (afterLast last) (two-at s i h) ∙ rw e (ap (afterLast last) q)
-
-  -- Fewer than two bytes hold no match
-  pub at-end : length s ≤ i + 1 → afterLast last (drop i s) ≡ last
-  at-end h = go (drop i s) (omega (arith, length-drop i s))
-    where
-      go : (l : List ℕ) → length l ≤ 1 → afterLast last l ≡ last
-      go [] k = refl
-      go (x ∷ []) k = refl
-      go (x ∷ y ∷ l) k = absurd (omega arith)
+-- How long a part is
+pub length-between : (s : List ℕ) (start end : ℕ) → start ≤ end → end ≤ length s → length (between s start end) ≡ end - start
+length-between s start end h k = length-take-le (end - start) (drop start s) (omega (arith, length-drop start s))
 
 -- l is the end of a name
 abbrev End : (name l : List ℕ) → Type 0
@@ -78,7 +56,7 @@ name-part s row = go (rowText s row) (row-lies s row)
         let (h, k) = lies start end refl in
         let name = between s start end in
         let (i, j, e) = name-end name in
-        let l : length name ≡ end - start = length-take-le (end - start) (drop start s) (omega (arith, length-drop start s)) in
+        let l = length-between s start end h k in
         let m : length (sqlName name) ≡ length name - i = ap length e ∙ length-drop i name in
         let a : end - length (sqlName name) ≡ start + i = omega arith in
         let b : end - (start + i) ≡ end - start - i = omega arith in
@@ -99,7 +77,7 @@ pub name-placed : (s : List ℕ) (start len before : ℕ) (o : Outcome ℕ ℕ) 
     → ok (start + before) (start + before + (len - before)) ≡ sqlNameIn s o
 name-placed s start len before o e h k q =
     let name = between s start (start + len) in
-    let l : length name ≡ len = length-take-le (start + len - start) (drop start s) (omega (arith, length-drop start s)) ∙ omega arith in
+    let l : length name ≡ len = length-between s start (start + len) (omega arith) h ∙ omega arith in
     let m : length (sqlName name) ≡ len - before = sym (ap length q) ∙ length-drop before name ∙ omega arith in
     let a : start + before ≡ start + len - length (sqlName name) = omega (arith, l, m) in
     let b : start + before + (len - before) ≡ start + len = omega (arith, l) in

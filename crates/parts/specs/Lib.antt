@@ -1,3 +1,4 @@
 pub mod Parts
+pub mod Names
 pub mod Theorems
 pub mod Private

@@ -1,6 +1,7 @@
 -- The theorems about the definitions, as statements. Each comment names the proof, in proofs/.
 use Prim.Native.Nat.{ℕ, _≤_}
-use mathlib.Core.List.{List, [], _∷_}
+use mathlib.Core.List.{List, [], _∷_, _++_}
+use mathlib.Core.Logic.{_↔_}
 use mathlib.Core.Path.{_≡_}
 use lib.ListN.{length, drop}
 use Rattle.decimal.specs.Ascii.{ascii}
@@ -10,6 +11,7 @@ use Rattle.layout.specs.Reading.{ok, read}
 use Rattle.layout.specs.Answers.{limit}
 use Rattle.table.specs.declared.Row.{Row}
 use Rattle.parts.specs.Parts.{rowText, partOf, sqlName, sqlNameIn}
+use Rattle.parts.specs.Names.{SqlStart, nameStart, ExactStart, Standing, atStart, mostHeld, walkedOver, answered}
 
 -- The text of a row lies in the bytes: `row-lies` in RowText.antt
 abbrev pub Row-lies : Type 0
@@ -33,3 +35,16 @@ Name-part = (s : List ℕ) (row : Row) → partOf s (sqlNameIn s (rowText s row)
 abbrev pub Name-cases : Type 0
 Name-cases =
     (sqlName (ascii "a:::b") ≡ ascii ":b") × (sqlName (ascii "a::") ≡ []) × (sqlName (ascii "ab") ≡ ascii "ab")
+
+-- The two forms of the answer for a name are one: `start-exact` in Names.antt
+abbrev pub Start-exact : Type 0
+Start-exact = (name : List ℕ) (a : SqlStart) → (a ≡ nameStart name) ↔ ExactStart name a
+
+-- Walking over two parts, from wherever, is walking over the first, and from there over the second, wherever the cut is:
+-- `walk-append` in Names.antt
+abbrev pub Walk-append : Type 0
+Walk-append = (w : Standing) (l m : List ℕ) → walkedOver w (l ++ m) ≡ walkedOver (walkedOver w l) m
+
+-- A walk over a whole name gives the answer for the name: `walk-answer` in Names.antt
+abbrev pub Walk-answer : Type 0
+Walk-answer = (name : List ℕ) → length name ≤ mostHeld → answered (walkedOver atStart name) ≡ nameStart name

@@ -1,14 +1,17 @@
-// Texts as parts of the caller's bytes: the text of a row, and the SQL name of a declaration.
+// Texts as parts of the caller's bytes: the text of a row, and the SQL name of a declaration; and where in a declared name the SQL
+// name starts, by a walk that may be done in parts.
 use layout::LIMIT;
 use table::Refusal;
 use table::Row;
 use text::State;
+ghost use mathlib.Core.List.{List, _++_};
 ghost use mathlib.Core.Path.{_≡_};
-ghost use Prim.Native.Nat.{_+_, _<_, _≤_};
-ghost use lib.ListN.{length, drop};
+ghost use Prim.Native.Nat.{ℕ, _+_, _≤_};
+ghost use lib.ListN.{length};
 ghost use Rattle.layout.specs.Reading.{refuse};
 ghost use Rattle.parts.specs.Parts.{rowText, partOf, numberIn, placeIn, sqlName, sqlNameIn, foundPart};
-ghost use Rattle.parts.specs.Private.{LiesIn, colonsAt};
+ghost use Rattle.parts.specs.Names.{nameStart, ExactStart, atStart, mostHeld, held, walkedOver, StandsAfter, answered, standing, startOf};
+ghost use Rattle.parts.specs.Private.{LiesIn, Untested, endAfter};
 
 // Where a text is in the section: from a start on; or nowhere, with a refusal.
 pub enum TextPlace {
@@ -16,11 +19,29 @@ pub enum TextPlace {
     Refused(Refusal),
 }
 
+// Where the SQL name of a declared name starts; or that the name is not UTF-8.
+pub enum NameStart {
+    At { start: usize },
+    NotUtf8,
+}
+
+// Where a walk over a declared name stands: the state of the text check, whether a colon is open, where the SQL name starts so
+// far, and how many bytes the walk has seen. Both numbers count from the start of the whole name.
+pub struct NameWalk {
+    pub state: State,
+    pub opened: bool,
+    pub start: usize,
+    pub seen: usize,
+}
+
+// The greatest number that a walk holds.
+const MOST_HELD: usize = 18446744073709551615;
+
 // Where the text of a row is.
 pub fn place_row_text(section: &[u8], row: Row) -> TextPlace
     ensures { λ r. ⌜ foundPart r ≡ rowText (now (section .entry)) row ⌝ }
 {
-    let found = place_bytes(section, row);
+    let found = place_row_bytes(section, row);
     let TextPlace::Section { start, len } = found else {
         return found;
     };
@@ -29,6 +50,27 @@ pub fn place_row_text(section: &[u8], row: Row) -> TextPlace
         return found;
     }
     no_place(15)
+}
+
+// The same, with nothing known of the bytes there.
+fn place_row_bytes(section: &[u8], row: Row) -> TextPlace
+    ensures { λ r. ⌜ Untested (now (section .entry)) row (foundPart r) ⌝ }
+{
+    if LIMIT < section.len() {
+        return no_place(1);
+    }
+    if row.sort != layout::SORT_TEXT {
+        return no_place(15);
+    }
+    let start = row.offset as usize;
+    let len = row.value as usize;
+    if section.len() < start {
+        return no_place(15);
+    }
+    if section.len() - start < len {
+        return no_place(15);
+    }
+    TextPlace::Section { start, len }
 }
 
 // A refusal, with place 0.
@@ -50,8 +92,9 @@ pub fn row_text<'a>(section: &'a [u8], row: Row, number: &mut u32, place: &mut u
 
 // Where the SQL name of a declaration is, from the row of the declaration's name.
 pub fn place_sql_name(section: &[u8], row: Row) -> TextPlace
+    ensures { λ r. ⌜ foundPart r ≡ sqlNameIn (now (section .entry)) (rowText (now (section .entry)) row) ⌝ }
 {
-    let found = place_bytes(section, row);
+    let found = place_row_bytes(section, row);
     let TextPlace::Section { start, len } = found else {
         return found;
     };
@@ -64,83 +107,6 @@ pub fn place_sql_name(section: &[u8], row: Row) -> TextPlace
         start: start + before,
         len: len - before,
     }
-}
-
-pub enum NameStart {
-    At { start: usize },
-    NotUtf8,
-}
-
-pub fn name_start(name: &[u8]) -> NameStart {
-    NameWalk::new().walk(name).answer()
-}
-
-pub struct NameWalk {
-    pub state: State,
-    pub opened: bool,
-    pub start: usize,
-    pub seen: usize,
-}
-
-impl NameWalk {
-    pub fn new() -> NameWalk {
-        NameWalk {
-            state: State::Start,
-            opened: false,
-            start: 0,
-            seen: 0,
-        }
-    }
-
-    pub fn walk(self, bytes: &[u8]) -> NameWalk {
-        let w = text::walk_colons(self.state, self.opened, bytes);
-        let mut start = self.start;
-        if 0 < w.end {
-            start = add(self.seen, w.end);
-        }
-        NameWalk {
-            state: w.state,
-            opened: w.opened,
-            start,
-            seen: add(self.seen, bytes.len()),
-        }
-    }
-
-    pub fn answer(self) -> NameStart {
-        let q = self.state;
-        match q {
-            State::Start => NameStart::At { start: self.start },
-            _ => NameStart::NotUtf8,
-        }
-    }
-}
-
-fn add(a: usize, b: usize) -> usize {
-    if MOST - a < b {
-        return MOST;
-    }
-    a + b
-}
-
-const MOST: usize = 18446744073709551615;
-
-fn place_bytes(section: &[u8], row: Row) -> TextPlace
-{
-    if LIMIT < section.len() {
-        return no_place(1);
-    }
-    if row.sort != layout::SORT_TEXT {
-        return no_place(15);
-    }
-    let start = row.offset as usize;
-    let len = row.value as usize;
-    if section.len() < start {
-        return no_place(15);
-    }
-    if section.len() - start < len {
-        return no_place(15);
-    }
-    TextPlace::Section { start, len }
 }
 
 // The SQL name of a declaration, a part of the section, from the row of the declaration's name.
@@ -175,3 +141,74 @@ fn part_at<'a>(section: &'a [u8], found: TextPlace, number: &mut u32, place: &mu
     }
 }
 
+// Where the SQL name of a declared name starts, by one walk over the name.
+pub fn name_start(name: &[u8]) -> NameStart
+    ensures { λ r. ⌜ startOf r ≡ nameStart (now (name .entry)) ⌝ }
+    ensures { λ r. ⌜ ExactStart (now (name .entry)) (startOf r) ⌝ }
+{
+    NameWalk::new().walk(name).answer()
+}
+
+impl NameWalk {
+    // The walk before the first byte.
+    pub fn new() -> NameWalk
+        ensures { λ r. ⌜ standing r ≡ atStart ⌝ }
+    {
+        NameWalk {
+            state: State::Start,
+            opened: false,
+            start: 0,
+            seen: 0,
+        }
+    }
+
+    // The walk after these bytes, which follow those that it has seen. From any other state the first promise alone says what it
+    // does.
+    pub fn walk(self, bytes: &[u8]) -> NameWalk
+        ensures { λ r. ⌜ standing r ≡ walkedOver (standing self) (now (bytes .entry)) ⌝ }
+        ensures { λ r. ⌜ ((l : List ℕ) → StandsAfter l (standing self) → StandsAfter (l ++ now (bytes .entry)) (standing r)) ⌝ }
+    {
+        let state = self.state;
+        let walked = text::walk_colons(state, self.opened, bytes);
+        let state = walked.state;
+        NameWalk {
+            state,
+            opened: walked.opened,
+            start: start_after(self.start, self.seen, walked.end),
+            seen: count_on(self.seen, bytes.len()),
+        }
+    }
+
+    // The answer, if no more bytes follow.
+    pub fn answer(self) -> NameStart
+        ensures { λ r. ⌜ startOf r ≡ answered (standing self) ⌝ }
+        ensures { λ r. ⌜ ((l : List ℕ) → length l ≤ mostHeld → StandsAfter l (standing self) → ExactStart l (startOf r)) ⌝ }
+    {
+        let state = self.state;
+        match state {
+            State::Start => NameStart::At { start: self.start },
+            _ => NameStart::NotUtf8,
+        }
+    }
+}
+
+// Where the SQL name starts after more bytes: after the last pair of colons, which ended at `end` of these bytes; or, if they have
+// none, where it started before.
+fn start_after(start: usize, seen: usize, end: usize) -> usize
+    ensures { λ r. ⌜ r ≡ held (endAfter start seen end) ⌝ }
+{
+    if end == 0 {
+        return start;
+    }
+    count_on(seen, end)
+}
+
+// A count, and n more.
+fn count_on(count: usize, n: usize) -> usize
+    ensures { λ r. ⌜ r ≡ held (count + n) ⌝ }
+{
+    if MOST_HELD - count < n {
+        return MOST_HELD;
+    }
+    count + n
+}

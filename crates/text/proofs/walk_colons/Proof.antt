@@ -41,9 +41,10 @@ returns-2 c =
     let s = args .s .now in
     let q = stateOf (args .q) in
     let colon = eqb-true _ 0x3A (c .before .before .if3 .taken) in
-    let walked = c .walk-pairs .ensures in
-    (walked .states q (c .before .after-colon .ensures ∙ ap (step q) (sym colon) ∙ sym (run-snoc q s 0 (search needs))),
-    told (pairsAfter (unwalked (args .opened)) s) (c .walk-pairs .result) (length s) (rw (c .before .before .before .before .if2 .taken) (walked .pairs true (first-closes s (search needs) colon))))
+    let walked = c .walk-pairs .ensures in (
+      walked .states q (c .before .after-colon .ensures ∙ ap (step q) (sym colon) ∙ sym (run-snoc q s 0 (search needs))),
+      told (pairsAfter (unwalked (args .opened)) s) (c .walk-pairs .result) (length s) (rw (c .before .before .before .before .if2 .taken) (walked .pairs true (first-closes s (search needs) colon))),
+    )
 
 walk-pairs-requires-2 : tie.Need-walk-pairs-requires-2
 walk-pairs-requires-2 c κs = search needs
@@ -54,7 +55,7 @@ returns-3 c =
     let s = args .s .now in
     let walked = c .walk-pairs2 .ensures in
     let alike : pairsAfter (unwalked (args .opened)) s ≡ pairsAfter (unwalked false) s =
-            ⊎-elim (λ k. rw (k .0 .taken) (first-other s (search needs) (eqb-false _ 0x3A (k .2 .left)))) (λ k. rw (k .left)) (c .before .if2 .came) in
+    ⊎-elim (λ k. rw (k .0 .taken) (first-other s (search needs) (eqb-false _ 0x3A (k .2 .left)))) (λ k. rw (k .left)) (c .before .if2 .came) in
     (walked .states (stateOf (args .q)) refl, told (pairsAfter (unwalked (args .opened)) s) (c .walk-pairs2 .result) (length s) (alike ∙ walked .pairs false refl))
 
 pub walk-colons-spec : {M : Type 1} → statement M

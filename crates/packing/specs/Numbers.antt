@@ -7,6 +7,7 @@ use lib.ListN.{getD}
 use Rattle.layout.specs.Answers.{Answer, Result}
 use Rattle.layout.specs.Reading.{Outcome, ok, refuse}
 use Rattle.table.specs.Answers.{Total, counted, uncounted}
+use Rattle.parts.specs.Names.{SqlStart, startsAt, notUtf8}
 use Rattle.sql_text.specs.SqlText.{SqlAnswer}
 
 -- A refusal
@@ -66,3 +67,12 @@ reportNumbers (uncounted number place) = refusalNumbers number place
 abbrev pub pairsIn : Total → ℕ
 pairsIn (counted pairs) = pairs
 pairsIn (uncounted number place) = 0
+
+-- Where an SQL name starts: 1 and the start; or 0 and 0, if the name is not UTF-8
+abbrev pub startNumbers : SqlStart → List ℕ
+startNumbers (startsAt k) = 0 ∷ 0 ∷ 1 ∷ k ∷ []
+startNumbers notUtf8 = 0 ∷ 0 ∷ 0 ∷ 0 ∷ []
+
+-- What four numbers tell of it
+abbrev pub startTold : List ℕ → SqlStart
+startTold ns = cond (eqb (getD ns 2 0) 1) (startsAt (getD ns 3 0)) notUtf8

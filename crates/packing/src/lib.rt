@@ -1,5 +1,6 @@
 // How an answer is packed into four numbers: a refusal's number and place, or 0 and 0; then what is answered, or 0 and 0.
 use length::Length;
+use parts::NameStart;
 use parts::TextPlace;
 use paths::PathReport;
 use sql_text::SqlPlace;
@@ -8,10 +9,11 @@ use table::Refusal;
 ghost use mathlib.Core.Path.{_≡_};
 ghost use Rattle.table.specs.Answers.{answerOf};
 ghost use Rattle.parts.specs.Parts.{foundPart};
+ghost use Rattle.parts.specs.Names.{startOf};
 ghost use Rattle.sql_text.specs.SqlText.{sqlAnswerOf};
 ghost use Rattle.length.specs.Length.{lengthOf};
 ghost use Rattle.paths.specs.Paths.{reportOf};
-ghost use Rattle.packing.specs.Numbers.{refusalNumbers, answerNumbers, partNumbers, placeNumbers, inBuffer, lengthNumbers, reportNumbers, pairsIn};
+ghost use Rattle.packing.specs.Numbers.{refusalNumbers, answerNumbers, partNumbers, placeNumbers, inBuffer, lengthNumbers, reportNumbers, pairsIn, startNumbers};
 
 // What a reading answers, as numbers.
 pub fn answer_numbers(answer: Answer) -> [u64; 4]
@@ -90,4 +92,14 @@ pub fn pairs_in(report: PathReport) -> u64
         return 0;
     };
     pairs
+}
+
+// Where an SQL name starts, as an answer.
+pub fn start_numbers(start: NameStart) -> [u64; 4]
+    ensures { λ r. ⌜ r ≡ startNumbers (startOf start) ⌝ }
+{
+    match start {
+        NameStart::At { start } => [0, 0, 1, start as u64],
+        NameStart::NotUtf8 => [0, 0, 0, 0],
+    }
 }

@@ -1,4 +1,4 @@
--- What four numbers tell of a reading, a measuring, a writing and a path report.
+-- What four numbers tell of a reading, a measuring, a writing, a path report and a start.
 use Prim.Native.Nat.{ℕ}
 use native.Mathlib.Omega.{arith}
 use mathlib.Core.Bool.{Bool}
@@ -17,8 +17,9 @@ use Rattle.section.specs.Demand3.{Demand3}
 use Rattle.section.proofs.Demand3.{reading-meets, reading-told, refusal-numbered}
 use Rattle.table.specs.Answers.{answerOf, resultOf, Total, counted, uncounted}
 use Rattle.entry_writer.specs.Refusals.{Form, WriteRefusal, not-spelled, bad-text, too-long, no-space}
+use Rattle.parts.specs.Names.{SqlStart, startsAt, notUtf8, ExactStart}
 use Rattle.paths.specs.Repeats.{ExactReport}
-use Rattle.packing.specs.Numbers.{answerNumbers, answerIn, resultIn, lengthNumbers, totalTold, lengthTold, reportNumbers, pairsIn}
+use Rattle.packing.specs.Numbers.{answerNumbers, answerIn, resultIn, lengthNumbers, totalTold, lengthTold, reportNumbers, pairsIn, startNumbers, startTold}
 use Rattle.table.specs.declared.Answer as declared
 
 -- The numbers of an answer that its number tells, tell that answer
@@ -71,3 +72,12 @@ pub report-told : (s : List ℕ) (pairs : ℕ) (numbers : List ℕ) (t : Total) 
 report-told s pairs numbers t e q x =
     let some : (n p : ℕ) → t ≡ uncounted n p → n ≡ 0 → ⊥ = λ n p k z. omega (arith, z, refusal-numbered s n p (x .refuses n p .0 k)) in
     rw (e, q, report-in t some) x
+
+-- The numbers of a start tell that start
+start-in : (a : SqlStart) → startTold (startNumbers a) ≡ a
+start-in (startsAt k) = refl
+start-in notUtf8 = refl
+
+-- So its contract holds of what the numbers tell
+pub start-told : (s numbers : List ℕ) (a : SqlStart) → numbers ≡ startNumbers a → ExactStart s a → ExactStart s (startTold numbers)
+start-told s numbers a e x = rw (e, start-in a) x

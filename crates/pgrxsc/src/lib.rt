@@ -13,6 +13,7 @@ ghost use Rattle.layout.specs.ReadAlone.{readingAlone};
 ghost use Rattle.section.specs.Section.{reading};
 ghost use Rattle.section.specs.Demand3.{Demand3};
 ghost use Rattle.parts.specs.Parts.{rowText, sqlNameIn};
+ghost use Rattle.parts.specs.Names.{nameStart, ExactStart};
 ghost use Rattle.sql_text.specs.SqlText.{sqlText, filled, sqlAnswer};
 ghost use Rattle.paths.specs.Paths.{report};
 ghost use Rattle.paths.specs.Repeats.{ExactReport};
@@ -21,7 +22,7 @@ ghost use Rattle.entry_writer.specs.Refusals.{alone, ExactLength, ExactWriting}
 ghost use Rattle.section_writer.specs.Form.{section};
 ghost use Rattle.section_writer.specs.Writing.{measuredSection, writeSection};
 ghost use Rattle.pgrxsc.specs.Version.{version};
-ghost use Rattle.packing.specs.Numbers.{answerNumbers, resultIn, partNumbers, placeNumbers, inBuffer, lengthNumbers, lengthTold, reportNumbers, pairsIn, totalTold};
+ghost use Rattle.packing.specs.Numbers.{answerNumbers, resultIn, partNumbers, placeNumbers, inBuffer, lengthNumbers, lengthTold, reportNumbers, pairsIn, totalTold, startNumbers, startTold};
 
 // The version of these functions, which include/pgrxsc.h has as PGRXSC_VERSION.
 const VERSION: u32 = 2;
@@ -110,6 +111,15 @@ pub extern "C" fn pgrxsc_sql_name(
         value,
     };
     *answer = packing::part_numbers(parts::place_sql_name(bytes, row));
+}
+
+// Where the SQL name of a declared name starts. The third number is 1 if the bytes are UTF-8, else 0; the fourth is the start.
+#[no_mangle]
+pub extern "C" fn pgrxsc_name_start(bytes: &[u8], answer: &mut [u64; 4])
+    ensures { λ r. ⌜ now (answer .exit) ≡ startNumbers (nameStart (now (bytes .entry))) ⌝ }
+    ensures { λ r. ⌜ ExactStart (now (bytes .entry)) (startTold (now (answer .exit))) ⌝ }
+{
+    *answer = packing::start_numbers(parts::name_start(bytes));
 }
 
 // The SQL text of the mapping at an offset. The third number is its start, the fourth its length: in the buffer if 1 is returned,

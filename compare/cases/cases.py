@@ -2,10 +2,11 @@
 """Writes the cases of the crate cases: its stdin, and its stdout with the counts and the tally.
 
 Run it after a change. It takes no arguments, and prints how many cases of each letter there are. The sources are the cases below,
-with answers by the rules of docs/FORMAT.md, and five files beside this script, whose lines README.md explains:
+with answers by the rules of docs/FORMAT.md, and six files beside this script, whose lines README.md explains:
 
 - model.txt has answers of a model of the format that was written apart from this project and compared with the published Rust;
-- entities.txt has answers of the same model to the writing of payloads and sections, and paths.txt its path reports;
+- entities.txt has answers of the same model to the writing of payloads and sections, paths.txt its path reports, and names.txt where
+  SQL names start;
 - sample.txt has the published Rust's own answers, as `compare/run --sample 2000 --seed 3629` prints them;
 - rfc3629.txt has byte strings and whether they are UTF-8, as rfc3629.py writes them.
 
@@ -28,15 +29,15 @@ from collections import Counter
 from pathlib import Path
 
 HERE = Path(__file__).resolve().parent
-ANSWERED = ("model.txt", "entities.txt", "paths.txt", "sample.txt")
+ANSWERED = ("model.txt", "entities.txt", "paths.txt", "names.txt", "sample.txt")
 CRATE = HERE.parents[1] / "crates" / "cases"
 
 READINGS = ("S", "P", "M", "G")  # a section; one payload, one metadata record, one mapping, each alone
 PARTS = ("T", "N", "Q")  # a row's text, the SQL name from a row, the SQL text of a mapping
 WRITINGS = ("W", "w", "E", "e")  # a metadata record, one mapping, one payload, a section
 MEASURINGS = {"W": "V", "w": "v", "E": "Y", "e": "y"}  # the same, measured
-# R is the path report; O is a section as objects; U is the text check
-LETTERS = READINGS + PARTS + ("R",) + WRITINGS + tuple(MEASURINGS.values()) + ("O", "U")
+# R is the path report; O is a section as objects; U is the text check; X is the walk over a name
+LETTERS = READINGS + PARTS + ("R",) + WRITINGS + tuple(MEASURINGS.values()) + ("O", "U", "X")
 LENGTH_DIGITS = 5
 MANY = 5461  # rows
 ROW_WIDTH = 3
@@ -111,6 +112,41 @@ ADDED_ROWS = [
     ("T", b"abc", 6, 4, 0, "refuse 15 0"),
     ("T", b"", 6, 0, 0, "part 0 0"),
     ("T", b"\xc3\xa9", 6, 1, 1, "refuse 15 0"),
+]
+
+# Names, and where the SQL name starts; None is a name that is not UTF-8
+ADDED_NAMES = [
+    (b"", 0),
+    (b"ab", 0),
+    (b"a:::b", 3),
+    (b"a::", 3),
+    (b":", 0),
+    (b"::", 2),
+    (b":::", 2),
+    (b"::::", 4),
+    (b":::::", 4),
+    (b"a:b::c:d", 5),
+    (b"a::b:", 3),
+    (b"a::b::", 6),
+    # Colons with a character between them
+    (b":\xc3\xa9:", 0),
+    (b":\xf0\x9f\x98\x80::", 7),
+    (b"\xe2\x82\xac::\xe2\x82\xac:", 5),
+    # A wrong byte after a match, and one within it
+    (b"a::b\xff", None),
+    (b"a::\x80", None),
+    (b":\xff:", None),
+    # A character that is not finished at the end, before a colon, and before a match
+    (b"a::b\xc3", None),
+    (b"a::\xf0\x9f\x98", None),
+    (b"\xe2\x82:", None),
+    (b"\xc3::b", None),
+    # Longer ones, with ASCII before and after other characters
+    (b"a" * 63 + b"::b", 65),
+    (b"a" * 64 + b"::" + b"b" * 64, 66),
+    (b"exercise::" * 9 + "\u00fc::bung".encode(), 94),
+    ("\u00fc::".encode() + b"exercise::" * 9 + b"note", 94),
+    (b"exercise::" * 9 + b"\xfc", None),
 ]
 
 # Numeric mappings: the bytes after the tag, and the SQL text
@@ -465,6 +501,8 @@ def answered():
         yield f"R {hexadecimal(section(items, 0)[0])} count {pairs}"
     for letter, octets, sort, offset, value, answer in ADDED_ROWS:
         yield f"{letter} {hexadecimal(octets)} {sort} {offset} {value} {answer}"
+    for octets, start in ADDED_NAMES:
+        yield f"X {hexadecimal(octets)} {'no' if start is None else f'start {start}'}"
     for numbers, text in ADDED_NUMERIC:
         yield f"Q ff03{numbers}ff 1 31 buffer 0 {len(text)} {text.hex()}{'ee' * (31 - len(text))}"
     for letter, table, text, written in ADDED_WRITES:
@@ -602,7 +640,7 @@ def cases():
         if letter in WRITINGS:
             yield from writing(line)
             yield from measuring(line)
-        if letter in ("O", "U"):
+        if letter in ("O", "U", "X"):
             yield f"{letter} 0 {line[2:]}"
 
 

@@ -20,6 +20,8 @@
 //   and V.
 // - U is the text check. Its number is 0. The answer is `yes` or `no`, whether the bytes are UTF-8; or `parts`, if some walk over
 //   them in two parts tells otherwise.
+// - X is the walk over a declared name. Its number is 0. The answer is `start` and where the SQL name starts; or `no`, if the bytes
+//   are not UTF-8; or `parts`, if some walk over them in two parts, or byte by byte, tells otherwise.
 //
 // A case that differs is printed, and below it what was answered. At the end stand how many cases were run and how many differ,
 // and the tally of the sections accepted and refused.
@@ -27,6 +29,8 @@ use layout::ROW_WIDTH;
 use length::Length;
 use libc::STDIN_FILENO;
 use libc::STDOUT_FILENO;
+use parts::NameStart;
+use parts::NameWalk;
 use paths::PathReport;
 use table::Answer;
 use table::Refusal;
@@ -438,6 +442,7 @@ fn answer_other(
         b'W' | b'w' | b'V' | b'v' => write(letter, numbers, s, out),
         b'E' | b'e' | b'Y' | b'y' => write(letter, numbers, s, out),
         b'U' => text_check(s, out),
+        b'X' => name_start(s, out),
         _ => bad_case(out),
     }
 }
@@ -765,6 +770,44 @@ fn same_in_parts(s: &[u8], yes: bool) -> bool {
 
 fn ends_a_character(q: State) -> bool {
     if let State::Start = q { true } else { false }
+}
+
+fn name_start(s: &[u8], out: &mut [u8; OUT_SIZE]) -> usize {
+    let answer = parts::name_start(s);
+    if !same_start_in_parts(s, start_number(answer)) {
+        return put(out, 0, b"parts");
+    }
+    match answer {
+        NameStart::At { start } => {
+            let end = put(out, 0, b"start");
+            put_number(out, end, start as u64)
+        }
+        NameStart::NotUtf8 => put(out, 0, b"no"),
+    }
+}
+
+// Whether a walk over s in two parts, wherever they part, and one byte by byte tell the same start.
+fn same_start_in_parts(s: &[u8], start: usize) -> bool {
+    let mut bytewise = NameWalk::new();
+    let mut k = 0;
+    while k < s.len() {
+        if start_number(NameWalk::new().walk(&s[0..k]).walk(&s[k..]).answer()) != start {
+            return false;
+        }
+        let next = k + 1;
+        bytewise = bytewise.walk(&s[k..next]);
+        k = next;
+    }
+    start_number(NameWalk::new().walk(s).walk(&s[k..]).answer()) == start
+        && start_number(bytewise.answer()) == start
+}
+
+// An answer as one number: END for one that tells no start.
+fn start_number(answer: NameStart) -> usize {
+    match answer {
+        NameStart::At { start } => start,
+        NameStart::NotUtf8 => END,
+    }
 }
 
 // Each of these puts something into out from the place at on, as far as there is room, and answers the place after it. A blank

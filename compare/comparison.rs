@@ -61,6 +61,7 @@ pub struct Comparison {
     /// Texts, names and SQL texts of any row and at any offset.
     pub any_texts: u64,
     pub any_names: u64,
+    pub any_starts: u64,
     pub any_sql_texts: u64,
     pub checks: u64,
     pub records: u64,
@@ -321,6 +322,18 @@ impl Comparison {
             return Err(format!(
                 "the row {row:?} gives {answer:?} and {answer_name:?}, not {expected:?} and {expected_name:?}"
             ));
+        }
+        self.compare_start(bytes.get(start..start + len).unwrap_or(bytes))
+    }
+
+    /// Compares where the SQL name starts in bytes that need not be a text.
+    fn compare_start(&mut self, bytes: &[u8]) -> Result<(), String> {
+        let name = std::str::from_utf8(bytes).ok().and_then(|text| text.split("::").last());
+        let expected = name.map(|name| bytes.len() - name.len());
+        let answer = pgrxsc::name_start(bytes);
+        self.any_starts += 1;
+        if answer != expected {
+            return Err(format!("the SQL name starts at {answer:?}, not at {expected:?}"));
         }
         Ok(())
     }

@@ -217,6 +217,7 @@ fn print(comparison: &Comparison) {
         ("mappings without SQL text", comparison.calls.sql_text_refusals),
         ("texts of any row", comparison.any_texts),
         ("SQL names of any row", comparison.any_names),
+        ("starts of SQL names", comparison.any_starts),
         ("SQL texts at any offset", comparison.any_sql_texts),
         ("path reports", comparison.path_reports),
         ("pairs that repeat a path", comparison.path_repeats),

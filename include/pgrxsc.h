@@ -164,6 +164,12 @@ void pgrxsc_row_text(const uint8_t *bytes, size_t len, uint32_t sort, uint32_t o
 void pgrxsc_sql_name(const uint8_t *bytes, size_t len, uint32_t sort, uint32_t offset, uint32_t value, uint64_t answer[4]);
 
 /*
+ * Where the SQL name starts in a declared function's name, which the bytes are, any number of them. a is 1 if they are UTF-8 by RFC
+ * 3629, else 0; b is the start, as pgrxsc_sql_name has it, and 0 where a is 0. No refusals.
+ */
+void pgrxsc_name_start(const uint8_t *bytes, size_t len, uint64_t answer[4]);
+
+/*
  * The SQL text of the mapping whose tag stands at an offset. a is its start and b its length: in the bytes, if 0 is returned, as
  * for a mapping As and after a refusal; in the buffer, if 1 is returned, as for Numeric, whose text is then stored at the
  * buffer's start. No other byte of the buffer changes. Refusals 1, 5 to 7, 9, 10 and 17.

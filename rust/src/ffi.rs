@@ -62,6 +62,7 @@ mod archive {
             value: u32,
             answer: *mut u64,
         );
+        pub fn pgrxsc_name_start(bytes: *const u8, len: usize, answer: *mut u64);
         pub fn pgrxsc_sql_text(
             bytes: *const u8,
             len: usize,
@@ -224,6 +225,18 @@ pub(crate) fn part(part: Part, bytes: &[u8], row: Row) -> Answer {
             row.value,
             answer.as_mut_ptr(),
         );
+    }
+    answer
+}
+
+/// a is 1 if the bytes are UTF-8, else 0; b is where the SQL name starts.
+pub(crate) fn name_start(bytes: &[u8]) -> Answer {
+    check_version();
+    let mut answer = UNANSWERED;
+    // SAFETY: pointer and length are those of a slice; the answer has four numbers and overlaps
+    // nothing.
+    unsafe {
+        archive::pgrxsc_name_start(bytes.as_ptr(), bytes.len(), answer.as_mut_ptr());
     }
     answer
 }

@@ -82,7 +82,7 @@ mod row;
 mod table;
 mod writing;
 
-pub use parts::{is_text, path_repeats, row_text, sql_name, sql_text};
+pub use parts::{is_text, name_start, path_repeats, row_text, sql_name, sql_text};
 pub use reading::{
     read_mapping, read_metadata, read_payload, read_section, Entities, Entity, Reading, Rows, Texts,
 };

@@ -42,6 +42,22 @@ pub fn sql_name(bytes: &[u8], row: Row) -> Result<&str, Refusal> {
     part(Part::SqlName, bytes, row)
 }
 
+/// Where the SQL name starts in a declared function's name, or `None` if the name is not UTF-8.
+///
+/// The name may be of any length. What follows the start is the SQL name, as [`sql_name`] has it.
+///
+/// ```
+/// use pgrxsc::name_start;
+///
+/// assert_eq!(name_start(b"my::function"), Some(4));
+/// assert_eq!(name_start(b"function"), Some(0));
+/// assert_eq!(name_start(b"my::\xff"), None);
+/// ```
+pub fn name_start(name: &[u8]) -> Option<usize> {
+    let (is_text, start) = accepted(ffi::name_start(name)).expect("no name is refused");
+    (is_text == 1).then_some(start)
+}
+
 fn part(part: Part, bytes: &[u8], row: Row) -> Result<&str, Refusal> {
     let (start, len) = accepted(ffi::part(part, bytes, row))?;
     Ok(text_at(bytes, start, len))

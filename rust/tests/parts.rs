@@ -3,7 +3,9 @@
 mod common;
 
 use common::{hex, text, text_row};
-use pgrxsc::{is_text, row_text, sql_name, sql_text, Refusal, Row, Sort, LIMIT, SQL_TEXT_SIZE};
+use pgrxsc::{
+    is_text, name_start, row_text, sql_name, sql_text, Refusal, Row, Sort, LIMIT, SQL_TEXT_SIZE,
+};
 
 const FIFTEEN: Refusal = Refusal::new(15, 0);
 
@@ -61,6 +63,46 @@ fn sql_names() {
     }
     assert_eq!(sql_name(b"a::b", text_row(1, 4)), Err(FIFTEEN));
     assert_eq!(sql_name(b"a::\xff", text_row(0, 4)), Err(FIFTEEN));
+}
+
+#[test]
+fn starts_of_sql_names() {
+    for (name, expected) in [
+        ("", 0),
+        ("add", 0),
+        ("my_schema::add", 11),
+        ("a::", 3),
+        ("a:::b", 3),
+        ("::::", 4),
+        ("a:b", 0),
+        ("é::é:", 4),
+        (":é:", 0),
+    ] {
+        assert_eq!(name_start(name.as_bytes()), Some(expected), "{name}");
+        let part = sql_name(name.as_bytes(), text_row(0, name.len() as u32));
+        assert_eq!(part, Ok(&name[expected..]), "{name}");
+    }
+    for name in [
+        &b"a::\xff"[..],
+        b"\xff::a",
+        b"a::\xc3",
+        b"\xc3::a",
+        b":\x80:",
+    ] {
+        assert_eq!(name_start(name), None, "{name:?}");
+    }
+}
+
+#[test]
+fn starts_in_long_names() {
+    let mut name = vec![b'a'; LIMIT + 1];
+    assert_eq!(name_start(&name), Some(0));
+    name.extend(b"::add");
+    assert_eq!(name_start(&name), Some(LIMIT + 3));
+    name.push(0xc3);
+    assert_eq!(name_start(&name), None);
+    name.push(0xa9);
+    assert_eq!(name_start(&name), Some(LIMIT + 3));
 }
 
 #[test]

@@ -1,20 +1,20 @@
 -- The walk over a name: its counts, its parts, and its answer.
-use Prim.Native.Nat.{ℕ, _+_, _-_, _≤_, _<_}
+use Prim.Native.Nat.{ℕ, _+_, _-_, _≤_}
 use native.Mathlib.Omega.{arith}
 use mathlib.Core.Bool.{Bool, true, false, cond, _&&_, false≢true}
 use mathlib.Core.List.{List, [], _∷_, _++_}
 use mathlib.Core.Logic.{_↔_}
 use mathlib.Core.Path.{_≡_, refl, sym, ap, _∙_}
 use lib.Dec.{eqb, leb}
-use lib.ListN.{length, drop, length-drop}
-use borrow.Author.Tests.{leb-true, leb-false, le-leb, lt-leb, eqb-true, eqb-false, eq-eqb, ne-eqb}
+use lib.ListN.{length, length-drop}
+use borrow.Author.Tests.{leb-true, leb-false, le-leb, eqb-true, eqb-false, ne-eqb}
 use Rattle.text.specs.Rfc3629.{Utf8}
-use Rattle.text.specs.Walk.{State, start, wantedAfter, accepting, utf8}
-use Rattle.text.specs.Colons.{Pairs, paired, pairsAfter, unwalked}
+use Rattle.text.specs.Walk.{wantedAfter, utf8}
+use Rattle.text.specs.Colons.{Colons, colonStep, colonsAfter, unwalked}
 use Rattle.text.proofs.Exact.{utf8-exact, wanted-append}
-use Rattle.text.proofs.Pairs.{pairs-append, other, first, second}
+use Rattle.text.proofs.Colons.{colons-append, other, second}
 use Rattle.parts.specs.Parts.{colon, afterLast, sqlName}
-use Rattle.parts.specs.Names.{SqlStart, startsAt, notUtf8, nameStart, ExactStart, Standing, atStart, mostHeld, held, heldPairs, walkedOver, answered}
+use Rattle.parts.specs.Names.{SqlStart, startsAt, notUtf8, nameStart, ExactStart, mostHeld, held, heldColons, walkAnswer}
 use Rattle.parts.specs.Private.{endAfter}
 use Rattle.parts.specs.Theorems.{Start-exact, Walk-append, Walk-answer}
 use Rattle.parts.proofs.SqlName.{name-end}
@@ -62,12 +62,12 @@ held-next a b e = go (leb (a + 1) mostHeld) (leb (b + 1) mostHeld) refl refl
     go false false t u = held-large (a + 1) (omega (arith, leb-false (a + 1) mostHeld t)) ∙ sym (held-large (b + 1) (omega (arith, leb-false (b + 1) mostHeld u)))
 
 -- One more byte for two walks that both have a pair open, or both none: it closes a pair, it opens one, or it does neither
-both-next : (R : Pairs → Pairs → Type 0) (p q : Pairs) (b : ℕ) → p .opened ≡ q .opened
+both-next : (R : Colons → Colons → Type 0) (p q : Colons) (b : ℕ) → p .opened ≡ q .opened
     → R (record { opened = false; end = p .seen + 1; seen = p .seen + 1 }) (record { opened = false; end = q .seen + 1; seen = q .seen + 1 })
     → R (record { opened = true; end = p .end; seen = p .seen + 1 }) (record { opened = true; end = q .end; seen = q .seen + 1 })
     → R (record { opened = false; end = p .end; seen = p .seen + 1 }) (record { opened = false; end = q .end; seen = q .seen + 1 })
-    → R (paired p b) (paired q b)
-unfolding paired
+    → R (colonStep p b) (colonStep q b)
+unfolding colonStep
 both-next R p q b o closes opens neither = rw o (go (eqb b 0x3A) (q .opened))
   where
     go : (t u : Bool) → R
@@ -77,101 +77,101 @@ both-next R p q b o closes opens neither = rw o (go (eqb b 0x3A) (q .opened))
     go true false = opens
     go false u = neither
 
--- Pairs that are held alike
-abbrev Alike : Pairs → Pairs → Type 0
+-- Colons that are held alike
+abbrev Alike : Colons → Colons → Type 0
 Alike p q = (p .opened ≡ q .opened) × (held (p .end) ≡ held (q .end)) × (held (p .seen) ≡ held (q .seen))
 
-alike-next : (p q : Pairs) (b : ℕ) → Alike p q → Alike (paired p b) (paired q b)
+alike-next : (p q : Colons) (b : ℕ) → Alike p q → Alike (colonStep p b) (colonStep q b)
 alike-next p q b (o, e, s) =
     let next = held-next (p .seen) (q .seen) s in
     both-next Alike p q b o (refl, next, next) (refl, e, next) (refl, e, next)
 
-alike-after : (l : List ℕ) (p q : Pairs) → Alike p q → Alike (pairsAfter p l) (pairsAfter q l)
+alike-after : (l : List ℕ) (p q : Colons) → Alike p q → Alike (colonsAfter p l) (colonsAfter q l)
 alike-after [] p q a = a
-alike-after (b ∷ l) p q a = alike-after l (paired p b) (paired q b) (alike-next p q b a)
+alike-after (b ∷ l) p q a = alike-after l (colonStep p b) (colonStep q b) (alike-next p q b a)
 
-alike-held : (p q : Pairs) → Alike p q → heldPairs p ≡ heldPairs q
+alike-held : (p q : Colons) → Alike p q → heldColons p ≡ heldColons q
 alike-held p q (o, e, s) = cc
 
 pub walk-append : Walk-append
 walk-append w l m =
-    let q = pairsAfter (w .pairs) l in
+    let q = colonsAfter (w .colons) l in
     let a : wantedAfter (w .state) (l ++ m) ≡ wantedAfter (wantedAfter (w .state) l) m = wanted-append (w .state) l m in
-    let b : heldPairs (pairsAfter (w .pairs) (l ++ m)) ≡ heldPairs (pairsAfter (heldPairs q) m) =
-    ap heldPairs (pairs-append (w .pairs) l m)
-    ∙ alike-held (pairsAfter q m) (pairsAfter (heldPairs q) m) (alike-after m q (heldPairs q) (refl, sym (held-held (q .end)), sym (held-held (q .seen)))) in
+    let b : heldColons (colonsAfter (w .colons) (l ++ m)) ≡ heldColons (colonsAfter (heldColons q) m) =
+    ap heldColons (colons-append (w .colons) l m)
+    ∙ alike-held (colonsAfter q m) (colonsAfter (heldColons q) m) (alike-after m q (heldColons q) (refl, sym (held-held (q .end)), sym (held-held (q .seen)))) in
     cc
 
--- Pairs counted from a later start: `last` is where the last one ended before it, `at` how many bytes came before it
-abbrev Later : (last at : ℕ) → Pairs → Pairs → Type 0
+-- Colons counted from a later start: `last` is where the last one ended before it, `at` how many bytes came before it
+abbrev Later : (last at : ℕ) → Colons → Colons → Type 0
 Later last at p q = (p .opened ≡ q .opened) × (p .end ≡ endAfter last at (q .end)) × (p .seen ≡ at + q .seen)
 
-later-next : (last at : ℕ) (p q : Pairs) (b : ℕ) → Later last at p q → Later last at (paired p b) (paired q b)
+later-next : (last at : ℕ) (p q : Colons) (b : ℕ) → Later last at p q → Later last at (colonStep p b) (colonStep q b)
 later-next last at p q b (o, e, s) =
     let next : p .seen + 1 ≡ at + (q .seen + 1) = omega (arith, s) in
     both-next (Later last at) p q b o (refl, rw (ne-eqb (q .seen + 1) 0 (λ z. omega (arith, z))) next, next) (refl, e, next) (refl, e, next)
 
-later-after : (last at : ℕ) (l : List ℕ) (p q : Pairs) → Later last at p q → Later last at (pairsAfter p l) (pairsAfter q l)
+later-after : (last at : ℕ) (l : List ℕ) (p q : Colons) → Later last at p q → Later last at (colonsAfter p l) (colonsAfter q l)
 later-after last at [] p q a = a
-later-after last at (b ∷ l) p q a = later-after last at l (paired p b) (paired q b) (later-next last at p q b a)
+later-after last at (b ∷ l) p q a = later-after last at l (colonStep p b) (colonStep q b) (later-next last at p q b a)
 
 -- A part of a name, walked over from where a walk stands
-pub later : (p : Pairs) (l : List ℕ) → Later (p .end) (p .seen) (pairsAfter p l) (pairsAfter (unwalked (p .opened)) l)
+pub later : (p : Colons) (l : List ℕ) → Later (p .end) (p .seen) (colonsAfter p l) (colonsAfter (unwalked (p .opened)) l)
 later p l = later-after (p .end) (p .seen) l p (unwalked (p .opened)) (refl, refl, omega arith)
 
-pub seen-after : (l : List ℕ) (p : Pairs) → pairsAfter p l .seen ≡ p .seen + length l
+pub seen-after : (l : List ℕ) (p : Colons) → colonsAfter p l .seen ≡ p .seen + length l
 seen-after [] p = omega arith
 seen-after (b ∷ l) p =
-    let e : paired p b .seen ≡ p .seen + 1 = both-next (λ (x y : Pairs). x .seen ≡ p .seen + 1) p p b refl refl refl refl in
-    seen-after l (paired p b) ∙ omega (arith, e)
+    let e : colonStep p b .seen ≡ p .seen + 1 = both-next (λ (x y : Colons). x .seen ≡ p .seen + 1) p p b refl refl refl refl in
+    seen-after l (colonStep p b) ∙ omega (arith, e)
 
 -- One byte where no pair is open
-from-closed : (last at b : ℕ) → paired (record { opened = false; end = last; seen = at }) b ≡ record { opened = eqb b colon; end = last; seen = at + 1 }
-unfolding paired
+from-closed : (last at b : ℕ) → colonStep (record { opened = false; end = last; seen = at }) b ≡ record { opened = eqb b colon; end = last; seen = at + 1 }
+unfolding colonStep
 from-closed last at b = go (eqb b colon)
   where
-    go : (t : Bool) → _≡_ {A = Pairs} (cond t (record { opened = true; end = last; seen = at + 1 }) (record { opened = false; end = last; seen = at + 1 })) (record { opened = t; end = last; seen = at + 1 })
+    go : (t : Bool) → _≡_ {A = Colons} (cond t (record { opened = true; end = last; seen = at + 1 }) (record { opened = false; end = last; seen = at + 1 })) (record { opened = t; end = last; seen = at + 1 })
     go true = refl
     go false = refl
 
 -- With `after` what comes after the last pair, which ended at `last`, or the whole name: the last pair in the rest of the name ends
 -- where what comes after the last `::` starts
-pairs-name : (l : List ℕ) (last at : ℕ) (after : List ℕ) → last + length after ≡ at + length l
-    → pairsAfter (record { opened = false; end = last; seen = at }) l .end + length (afterLast after l) ≡ at + length l
-pairs-name [] last at after e = e
-pairs-name (x ∷ []) last at after e = rw (from-closed last at x) e
-pairs-name (x ∷ y ∷ l) last at after e = go (eqb x colon) (eqb y colon) refl refl (pairs-name l (at + 1 + 1) (at + 1 + 1) l refl) (pairs-name (y ∷ l) last (at + 1) after (omega (arith, e)))
+colons-name : (l : List ℕ) (last at : ℕ) (after : List ℕ) → last + length after ≡ at + length l
+    → colonsAfter (record { opened = false; end = last; seen = at }) l .end + length (afterLast after l) ≡ at + length l
+colons-name [] last at after e = e
+colons-name (x ∷ []) last at after e = rw (from-closed last at x) e
+colons-name (x ∷ y ∷ l) last at after e = go (eqb x colon) (eqb y colon) refl refl (colons-name l (at + 1 + 1) (at + 1 + 1) l refl) (colons-name (y ∷ l) last (at + 1) after (omega (arith, e)))
   where
-    after-x : Bool → Pairs
+    after-x : Bool → Colons
     after-x t = record { opened = t; end = last; seen = at + 1 }
 
-    one : (t : Bool) → eqb x colon ≡ t → paired (record { opened = false; end = last; seen = at }) x ≡ after-x t
+    one : (t : Bool) → eqb x colon ≡ t → colonStep (record { opened = false; end = last; seen = at }) x ≡ after-x t
     one t e = from-closed last at x ∙ ap after-x e
 
     go : (t u : Bool) → eqb x colon ≡ t → eqb y colon ≡ u
-        → pairsAfter (record { opened = false; end = at + 1 + 1; seen = at + 1 + 1 }) l .end + length (afterLast l l) ≡ at + 1 + 1 + length l
-        → pairsAfter (after-x false) (y ∷ l) .end + length (afterLast after (y ∷ l)) ≡ at + 1 + length (y ∷ l)
-        → pairsAfter (record { opened = false; end = last; seen = at }) (x ∷ y ∷ l) .end + length (cond (t && u) (afterLast l l) (afterLast after (y ∷ l))) ≡ at + length (x ∷ y ∷ l)
+        → colonsAfter (record { opened = false; end = at + 1 + 1; seen = at + 1 + 1 }) l .end + length (afterLast l l) ≡ at + 1 + 1 + length l
+        → colonsAfter (after-x false) (y ∷ l) .end + length (afterLast after (y ∷ l)) ≡ at + 1 + length (y ∷ l)
+        → colonsAfter (record { opened = false; end = last; seen = at }) (x ∷ y ∷ l) .end + length (cond (t && u) (afterLast l l) (afterLast after (y ∷ l))) ≡ at + length (x ∷ y ∷ l)
     go true true t u matched passed =
-        let e = ap (λ (p : Pairs). paired p y) (one true t) ∙ second (after-x true) y (eqb-true y colon u) refl in
-        ap (λ (p : Pairs). pairsAfter p l .end + length (afterLast l l)) e ∙ matched ∙ omega arith
+        let e = ap (λ (p : Colons). colonStep p y) (one true t) ∙ second (after-x true) y (eqb-true y colon u) refl in
+        ap (λ (p : Colons). colonsAfter p l .end + length (afterLast l l)) e ∙ matched ∙ omega arith
     go true false t u matched passed =
         let n = eqb-false y colon u in
-        let e = ap (λ (p : Pairs). paired p y) (one true t) ∙ other (after-x true) y n ∙ sym (other (after-x false) y n) in
-        ap (λ (p : Pairs). pairsAfter p l .end + length (afterLast after (y ∷ l))) e ∙ passed ∙ omega arith
+        let e = ap (λ (p : Colons). colonStep p y) (one true t) ∙ other (after-x true) y n ∙ sym (other (after-x false) y n) in
+        ap (λ (p : Colons). colonsAfter p l .end + length (afterLast after (y ∷ l))) e ∙ passed ∙ omega arith
     go false u t v matched passed =
-        ap (λ (p : Pairs). pairsAfter p (y ∷ l) .end + length (afterLast after (y ∷ l))) (one false t) ∙ passed ∙ omega arith
+        ap (λ (p : Colons). colonsAfter p (y ∷ l) .end + length (afterLast after (y ∷ l))) (one false t) ∙ passed ∙ omega arith
 
-pub name-pairs : (name : List ℕ) → pairsAfter (unwalked false) name .end + length (sqlName name) ≡ length name
+pub name-colons : (name : List ℕ) → colonsAfter (unwalked false) name .end + length (sqlName name) ≡ length name
 unfolding sqlName
-name-pairs name = pairs-name name 0 0 name refl ∙ omega arith
+name-colons name = colons-name name 0 0 name refl ∙ omega arith
 
 pub walk-answer : Walk-answer
-unfolding answered nameStart
+unfolding walkAnswer nameStart
 walk-answer name h =
-    let e = name-pairs name in
-    let k : held (pairsAfter (unwalked false) name .end) ≡ length name - length (sqlName name) =
-    held-small (pairsAfter (unwalked false) name .end) (omega (arith, e, h)) ∙ omega (arith, e) in
+    let e = name-colons name in
+    let k : held (colonsAfter (unwalked false) name .end) ≡ length name - length (sqlName name) =
+    held-small (colonsAfter (unwalked false) name .end) (omega (arith, e, h)) ∙ omega (arith, e) in
     ap (λ (n : ℕ). cond (utf8 name) (startsAt n) notUtf8) k
 
 pub start-exact : Start-exact

@@ -11,7 +11,7 @@ use Rattle.layout.specs.Reading.{ok, read}
 use Rattle.layout.specs.Answers.{limit}
 use Rattle.table.specs.declared.Row.{Row}
 use Rattle.parts.specs.Parts.{rowText, partOf, sqlName, sqlNameIn}
-use Rattle.parts.specs.Names.{SqlStart, nameStart, ExactStart, Standing, atStart, mostHeld, walkedOver, answered}
+use Rattle.parts.specs.Names.{SqlStart, nameStart, ExactStart, Standing, unbegun, mostHeld, walkedOver, walkAnswer}
 
 -- The text of a row lies in the bytes: `row-lies` in RowText.antt
 abbrev pub Row-lies : Type 0
@@ -47,4 +47,4 @@ Walk-append = (w : Standing) (l m : List ℕ) → walkedOver w (l ++ m) ≡ walk
 
 -- A walk over a whole name gives the answer for the name: `walk-answer` in Names.antt
 abbrev pub Walk-answer : Type 0
-Walk-answer = (name : List ℕ) → length name ≤ mostHeld → answered (walkedOver atStart name) ≡ nameStart name
+Walk-answer = (name : List ℕ) → length name ≤ mostHeld → walkAnswer (walkedOver unbegun name) ≡ nameStart name

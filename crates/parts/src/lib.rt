@@ -10,7 +10,7 @@ ghost use Prim.Native.Nat.{ℕ, _+_, _≤_};
 ghost use lib.ListN.{length};
 ghost use Rattle.layout.specs.Reading.{refuse};
 ghost use Rattle.parts.specs.Parts.{rowText, partOf, numberIn, placeIn, sqlName, sqlNameIn, foundPart};
-ghost use Rattle.parts.specs.Names.{nameStart, ExactStart, atStart, mostHeld, held, walkedOver, StandsAfter, answered, standing, startOf};
+ghost use Rattle.parts.specs.Names.{nameStart, ExactStart, unbegun, mostHeld, held, walkedOver, StandsAfter, walkAnswer, standing, startOf};
 ghost use Rattle.parts.specs.Private.{LiesIn, Untested, endAfter};
 
 // Where a text is in the section: from a start on; or nowhere, with a refusal.
@@ -152,7 +152,7 @@ pub fn name_start(name: &[u8]) -> NameStart
 impl NameWalk {
     // The walk before the first byte.
     pub fn new() -> NameWalk
-        ensures { λ r. ⌜ standing r ≡ atStart ⌝ }
+        ensures { λ r. ⌜ standing r ≡ unbegun ⌝ }
     {
         NameWalk {
             state: State::Start,
@@ -181,7 +181,7 @@ impl NameWalk {
 
     // The answer, if no more bytes follow.
     pub fn answer(self) -> NameStart
-        ensures { λ r. ⌜ startOf r ≡ answered (standing self) ⌝ }
+        ensures { λ r. ⌜ startOf r ≡ walkAnswer (standing self) ⌝ }
         ensures { λ r. ⌜ ((l : List ℕ) → length l ≤ mostHeld → StandsAfter l (standing self) → ExactStart l (startOf r)) ⌝ }
     {
         let state = self.state;

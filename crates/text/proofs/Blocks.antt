@@ -43,9 +43,9 @@ ascii-runs s p a e h l f q =
 pub passed : (s : List ℕ) (a e x : ℕ) → a ≤ e → e ≤ length s → x ≡ 0 → Ascii s a e → Reaches s a e x x
 passed s a e x h l z f p q = z ∙ sym (ap code (ascii-runs s p a e h l f (code-injective (wantedAfter p (take a s)) start (sym q ∙ z))))
 
--- A state in which nothing is wanted stays the same over ASCII
-pub stays : (s : List ℕ) (p q : State) (a e : ℕ) → a ≤ e → e ≤ length s → Ascii s a e → code q ≡ 0 → q ≡ wantedAfter p (take a s) → q ≡ wantedAfter p (take e s)
-stays s p q a e h l f z w =
+-- A state in which nothing is wanted ascii-stays the same over ASCII
+pub ascii-stays : (s : List ℕ) (p q : State) (a e : ℕ) → a ≤ e → e ≤ length s → Ascii s a e → code q ≡ 0 → q ≡ wantedAfter p (take a s) → q ≡ wantedAfter p (take e s)
+ascii-stays s p q a e h l f z w =
     let n : q ≡ start = code-injective q start z in
     n ∙ sym (ascii-runs s p a e h l f (sym w ∙ n))
 

@@ -3,4 +3,4 @@ pub mod Codes
 pub mod Table
 pub mod Blocks
 pub mod Words
-pub mod Pairs
+pub mod Colons

@@ -1,5 +1,5 @@
 -- Definitions for the contracts of private functions; no public contract cites them.
-use mathlib.Core.Bool.{Bool, true, false}
+use mathlib.Core.Bool.{Bool, false}
 use mathlib.Core.List.{List}
 use mathlib.Core.Path.{_≡_}
 use Prim.Native.Nat.{ℕ, _≤_, _<_, _/_, _%_, _^_}
@@ -8,7 +8,7 @@ use lib.ListN.{length, getD, take}
 use Rattle.text.specs.Walk.{State, start, tail-1, tail-2, tail-3, after-E0, after-ED, after-F0, after-F4, failed, step, wantedAfter}
 use Rattle.text.specs.declared.ColonWalk.{ColonWalk}
 use Rattle.text.specs.States.{stateOf}
-use Rattle.text.specs.Colons.{pairsAfter, unwalked}
+use Rattle.text.specs.Colons.{colonsAfter, unwalked}
 
 -- A state as the walk holds it: the place of its 6 bits in a row of the table
 abbrev pub code : State → ℕ
@@ -50,13 +50,13 @@ Decodes x q = (p : State) → x ≡ code p → q ≡ p
 
 -- After the first a bytes of s, walked with a pair of colons open or not, none is open, and the last one ended at e
 abbrev pub Closed : List ℕ → Bool → ℕ → ℕ → Type 0
-Closed s opened a e = pairsAfter (unwalked opened) (take a s) ≡ record { opened = false; end = e; seen = a }
+Closed s opened a e = colonsAfter (unwalked opened) (take a s) ≡ record { opened = false; end = e; seen = a }
 
 -- From there on the walk comes to where that holds of i and f
-abbrev pub Leads : List ℕ → ℕ → ℕ → ℕ → ℕ → Type 0
-Leads s a e i f = (opened : Bool) → Closed s opened a e → Closed s opened i f
+abbrev pub StaysClosed : List ℕ → ℕ → ℕ → ℕ → ℕ → Type 0
+StaysClosed s a e i f = (opened : Bool) → Closed s opened a e → Closed s opened i f
 
 -- r is where a walk over s ends that stood at q after the first a bytes, with no pair open and the last one ended at e
 pub record Completes (s : List ℕ) (a e : ℕ) (q : State) (r : ColonWalk) : Type 0 where
   pub states : (p : State) → q ≡ wantedAfter p (take a s) → stateOf (r .state) ≡ wantedAfter p s
-  pub pairs : (opened : Bool) → Closed s opened a e → pairsAfter (unwalked opened) s ≡ record { opened = r .opened; end = r .end; seen = length s }
+  pub colons : (opened : Bool) → Closed s opened a e → colonsAfter (unwalked opened) s ≡ record { opened = r .opened; end = r .end; seen = length s }

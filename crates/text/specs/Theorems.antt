@@ -6,7 +6,7 @@ use mathlib.Core.Path.{_≡_}
 use Prim.Native.Nat.{ℕ}
 use Rattle.text.specs.Rfc3629.{Utf8}
 use Rattle.text.specs.Walk.{State, wantedAfter, utf8}
-use Rattle.text.specs.Colons.{Pairs, pairsAfter}
+use Rattle.text.specs.Colons.{Colons, colonsAfter}
 
 -- The test is true exactly for what RFC 3629's grammar derives: `utf8-exact`
 abbrev pub Utf8-exact : Type 0
@@ -16,6 +16,6 @@ Utf8-exact = (l : List ℕ) → (utf8 l ≡ true) ↔ Utf8 l
 abbrev pub Wanted-append : Type 0
 Wanted-append = (q : State) (l m : List ℕ) → wantedAfter q (l ++ m) ≡ wantedAfter (wantedAfter q l) m
 
--- The same of the pairs of colons: `pairs-append` in Pairs.antt
-abbrev pub Pairs-append : Type 0
-Pairs-append = (p : Pairs) (l m : List ℕ) → pairsAfter p (l ++ m) ≡ pairsAfter (pairsAfter p l) m
+-- The same of the pairs of colons: `colons-append` in Colons.antt
+abbrev pub Colons-append : Type 0
+Colons-append = (p : Colons) (l m : List ℕ) → colonsAfter p (l ++ m) ≡ colonsAfter (colonsAfter p l) m

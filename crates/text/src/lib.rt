@@ -7,8 +7,8 @@ ghost use lib.ListN.{length};
 ghost use Rattle.text.specs.Rfc3629.{Utf8};
 ghost use Rattle.text.specs.Walk.{step, wantedAfter, utf8};
 ghost use Rattle.text.specs.States.{stateOf};
-ghost use Rattle.text.specs.Colons.{unwalked, pairsAfter};
-ghost use Rattle.text.specs.Private.{code, Encodes, Follows, Reaches, Decodes, Ascii, Packs, Leads, Completes};
+ghost use Rattle.text.specs.Colons.{unwalked, colonsAfter};
+ghost use Rattle.text.specs.Private.{code, Encodes, Follows, Reaches, Decodes, Ascii, Packs, StaysClosed, Completes};
 
 mod tables;
 
@@ -75,8 +75,8 @@ pub fn walk(q: State, s: &[u8]) -> State
 // goes from left to right once.
 pub fn walk_colons(q: State, opened: bool, s: &[u8]) -> ColonWalk
     ensures { λ r. ⌜ stateOf (r .state) ≡ wantedAfter (stateOf q) (now (s .entry)) ⌝ }
-    ensures { λ r. ⌜ r .opened ≡ pairsAfter (unwalked opened) (now (s .entry)) .opened ⌝ }
-    ensures { λ r. ⌜ r .end ≡ pairsAfter (unwalked opened) (now (s .entry)) .end ⌝ }
+    ensures { λ r. ⌜ r .opened ≡ colonsAfter (unwalked opened) (now (s .entry)) .opened ⌝ }
+    ensures { λ r. ⌜ r .end ≡ colonsAfter (unwalked opened) (now (s .entry)) .end ⌝ }
 {
     let n = s.len();
     if n == 0 {
@@ -113,18 +113,19 @@ fn walk_pairs(q: State, s: &[u8], a: usize) -> ColonWalk
     }
     let p = ascii_pairs(s, a);
     let at = p.at;
+    let end = p.end;
     if at == n {
         return ColonWalk {
             state: q,
             opened: false,
-            end: p.end,
+            end,
         };
     }
     if n - at == 1 && s[at] < 128 {
         return ColonWalk {
             state: q,
             opened: s[at] == b':',
-            end: p.end,
+            end,
         };
     }
     walk_pairs_from(q, s, p)
@@ -135,7 +136,7 @@ fn ascii_pairs(s: &[u8], a: usize) -> Passed
     requires { ⌜ a ≤ length (now s) ⌝ }
     ensures { λ r. ⌜ (a ≤ r .at) × (r .at ≤ length (now (s .entry))) ⌝ }
     ensures { λ r. ⌜ Ascii (now (s .entry)) a (r .at) ⌝ }
-    ensures { λ r. ⌜ Leads (now (s .entry)) a a (r .at) (r .end) ⌝ }
+    ensures { λ r. ⌜ StaysClosed (now (s .entry)) a a (r .at) (r .end) ⌝ }
 {
     let n = s.len();
     let mut i = a;
@@ -148,8 +149,8 @@ fn ascii_pairs(s: &[u8], a: usize) -> Passed
         if s[j] != b':' {
             i += 2;
         } else if s[i] == b':' {
-            i += 2;
-            end = i;
+            end = i + 2;
+            i = end;
         } else {
             i += 1;
         }

@@ -1,10 +1,8 @@
 -- The walk over the whole name.
-use mathlib.Core.List.{[]}
-use mathlib.Core.Path.{_≡_, sym, ap, _∙_}
+use mathlib.Core.Path.{ap, _∙_}
 use denote.Ref.{now}
-use native.Mathlib.Omega.{arith}
 use borrow.Author.Needs.{needs}
-use Rattle.parts.specs.Names.{Standing, StandsAfter, standing, answered, walkedOver}
+use Rattle.parts.specs.Names.{Standing, StandsAfter, standing, walkAnswer, walkedOver}
 use Rattle.parts.proofs.Names.{walk-answer, start-exact}
 use Rattle.parts.proofs.name_start.Statement.{statement}
 use Rattle.parts.proofs.name_start.Tie as tie
@@ -22,7 +20,7 @@ returns : tie.Need-returns
 returns c =
     let name = now (c .before .before .before .before .args .name) in
     let whole : StandsAfter name (standing (c .before .walk .result)) = c .before .walk .ensures .0 ∙ ap (λ (w : Standing). walkedOver w name) (c .before .before .new .ensures) in
-    let e = c .answer .ensures .0 ∙ ap answered whole ∙ walk-answer name (search needs) in
+    let e = c .answer .ensures .0 ∙ ap walkAnswer whole ∙ walk-answer name (search needs) in
     (e, start-exact name _ .0 e)
 
 pub name-start-spec : {M : Type 1} → statement M

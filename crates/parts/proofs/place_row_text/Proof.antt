@@ -4,7 +4,6 @@ use mathlib.Core.Path.{sym, ap, _∙_}
 use native.Mathlib.Omega.{arith}
 use denote.Ref.{now}
 use Rattle.parts.specs.Parts.{foundPart}
-use Rattle.parts.specs.Private.{Untested}
 use Rattle.parts.proofs.RowText.{is-text, not-text, refused}
 use borrow.Author.Needs.{needs}
 use Rattle.parts.proofs.place_row_text.Statement.{statement}

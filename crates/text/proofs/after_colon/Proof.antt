@@ -1,5 +1,5 @@
 -- Of the nine states, start alone has a transition for a colon.
-use mathlib.Core.Path.{_≡_, refl, sym, ap, _∙_}
+use mathlib.Core.Path.{_≡_, refl, sym, _∙_}
 use borrow.Author.Needs.{needs}
 use Rattle.text.specs.Walk.{State, start, tail-1, tail-2, tail-3, after-E0, after-ED, after-F0, after-F4, failed, step}
 use Rattle.text.specs.Private.{code}

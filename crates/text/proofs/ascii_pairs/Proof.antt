@@ -6,10 +6,10 @@ use lib.Bits.{bitOr}
 use lib.ListN.{length, getD}
 use native.Mathlib.Omega.{arith}
 use borrow.Author.Needs.{needs}
-use Rattle.text.specs.Private.{Ascii, Leads}
+use Rattle.text.specs.Private.{Ascii, StaysClosed}
 use Rattle.text.proofs.Blocks.{ascii-more}
 use Rattle.text.proofs.Words.{or-l, or-r}
-use Rattle.text.proofs.Pairs.{closed-other, closed-pair, closed-two}
+use Rattle.text.proofs.Colons.{closed-other, closed-pair, closed-two}
 use Rattle.text.proofs.ascii_pairs.Statement.{statement}
 use Rattle.text.proofs.ascii_pairs.Tie as tie
 
@@ -21,7 +21,7 @@ ascii-two s a i f h =
     rw two (ascii-more s a (i + 1) (ascii-more s a i f (omega (arith, h, l))) (omega (arith, h, r)))
 
 abbrev Inv-loop : tie.InvT-loop
-Inv-loop s a n i₀ end₀ i end = (n ≡ length s) × (a ≤ i) × (i ≤ n) × Ascii s a i × Leads s a a i end
+Inv-loop s a n i₀ end₀ i end = (n ≡ length s) × (a ≤ i) × (i ≤ n) × Ascii s a i × StaysClosed s a a i end
 
 abbrev μ-loop : tie.MeasureT-loop
 μ-loop s a n i₀ end₀ i end = n - i
@@ -63,8 +63,8 @@ loop-again c =
 shared-slice-read-if3 : tie.Need-shared-slice-read-if3 Inv-loop μ-loop
 shared-slice-read-if3 c = search needs
 
-add-i-2 : tie.Need-add-i-2 Inv-loop μ-loop
-add-i-2 c = search needs
+add-end : tie.Need-add-end Inv-loop μ-loop
+add-end c = search needs
 
 loop-less-2 : tie.Need-loop-less-2 Inv-loop μ-loop
 loop-less-2 c = search needs
@@ -76,8 +76,8 @@ loop-again-2 c =
     let two : loop .i + 2 ≡ loop .i + 1 + 1 = omega arith in
     (search needs, search needs, search needs, ascii-two s _ (loop .i) (loop .inv .3) (c .before .before .before .before .if1 .left), λ o z. rw two (closed-pair s o (loop .i) (loop .end) (loop .inv .4 o z) (search needs) (c .if3 .taken) (c .before .before .if2 .left)))
 
-add-i-3 : tie.Need-add-i-3 Inv-loop μ-loop
-add-i-3 c = search needs
+add-i-2 : tie.Need-add-i-2 Inv-loop μ-loop
+add-i-2 c = search needs
 
 loop-less-3 : tie.Need-loop-less-3 Inv-loop μ-loop
 loop-less-3 c = search needs
@@ -108,10 +108,10 @@ ascii-pairs-spec =
     loop-less
     loop-again
     shared-slice-read-if3
-    add-i-2
+    add-end
     loop-less-2
     loop-again-2
-    add-i-3
+    add-i-2
     loop-less-3
     loop-again-3
     returns-2)

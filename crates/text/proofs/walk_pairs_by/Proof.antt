@@ -2,13 +2,12 @@
 use Prim.Native.Nat.{ℕ, _-_, _+_, _≤_, _%_}
 use mathlib.Core.Path.{_≡_, ap, _∙_}
 use lib.ListN.{length, take}
-use native.Mathlib.Omega.{arith}
 use borrow.Author.Tests.{eq-eqb}
 use borrow.Author.Needs.{needs}
-use Rattle.text.specs.Private.{code, Leads}
+use Rattle.text.specs.Private.{code, StaysClosed}
 use Rattle.text.specs.Walk.{State, wantedAfter}
 use Rattle.text.proofs.Codes.{code-low, walked, ended}
-use Rattle.text.proofs.Pairs.{closed-other, closed-pair, closed-two, closed-end, last-byte}
+use Rattle.text.proofs.Colons.{closed-other, closed-pair, closed-two, closed-end, last-byte}
 use Rattle.text.proofs.walk_pairs_by.Statement.{statement}
 use Rattle.text.proofs.walk_pairs_by.Tie as tie
 
@@ -17,7 +16,7 @@ Inv-loop class next s n x₀ i₀ end₀ x i end =
     (n ≡ length s)
     × (i ≤ n)
     × ((p : State) → x₀ ≡ code (wantedAfter p (take i₀ s)) → x % 64 ≡ code (wantedAfter p (take i s)))
-    × Leads s i₀ end₀ i end
+    × StaysClosed s i₀ end₀ i end
 
 abbrev μ-loop : tie.MeasureT-loop
 μ-loop class next s n x₀ i₀ end₀ x i end = n - i
@@ -51,7 +50,7 @@ returns c =
     let code-of = c .before .before .before .before .before .before .before .code-of in
     record {
       states = λ p e. c .state-of .ensures (wantedAfter p s) (ended p s (loop .i + 1) (next-of .result) (search needs) (walked p s (loop .i) (loop .x) (next-of .result) (search needs) (next-of .ensures) (loop .inv .2 p (code-of .ensures ∙ ap code e))));
-      pairs = λ o z. rw (eq-eqb _ 0x3A (c .before .before .if1 .taken)) at (last-byte s o (loop .i) (loop .end) (loop .inv .3 o z) (search needs));
+      colons = λ o z. rw (eq-eqb _ 0x3A (c .before .before .if1 .taken)) at (last-byte s o (loop .i) (loop .end) (loop .inv .3 o z) (search needs));
     }
 
 shared-slice-read-d : tie.Need-shared-slice-read-d Inv-loop μ-loop
@@ -102,7 +101,7 @@ returns-2 c =
     let code-of = c .before .before .before .code-of in
     record {
       states = λ p e. c .state-of2 .ensures (wantedAfter p s) (ended p s (loop .i) (loop .x) (search needs) (loop .inv .2 p (code-of .ensures ∙ ap code e)));
-      pairs = λ o z. closed-end s o (loop .i) (loop .end) (loop .inv .3 o z) (search needs);
+      colons = λ o z. closed-end s o (loop .i) (loop .end) (loop .inv .3 o z) (search needs);
     }
 
 pub walk-pairs-by-spec : {M : Type 1} → statement M

@@ -1,4 +1,5 @@
-// Whether bytes are UTF-8, as RFC 3629 defines it: the check that Rust makes with std::str::from_utf8.
+// Whether bytes are UTF-8, as RFC 3629 defines it: the check that Rust makes with std::str::from_utf8. And a walk that also finds
+// the pairs of colons in a text.
 ghost use mathlib.Core.Path.{_≡_};
 ghost use mathlib.Core.Bool.{true};
 ghost use mathlib.Core.Logic.{_↔_};
@@ -30,7 +31,7 @@ pub enum State {
 }
 
 // Where a walk stands that also finds the pairs of colons: its state; whether a pair is open, which the next byte closes if it is
-// a colon; and where the last pair ended, 0 if there was none.
+// a colon; and where the last pair ended, in the bytes that were just walked, 0 if none ended there.
 pub struct ColonWalk {
     pub state: State,
     pub opened: bool,

@@ -14,9 +14,9 @@ use Rattle.text.specs.Colons.{Colons, colonStep, colonsAfter, unwalked}
 use Rattle.text.proofs.Exact.{utf8-exact, wanted-append}
 use Rattle.text.proofs.Colons.{colons-append, other, second}
 use Rattle.parts.specs.Parts.{colon, afterLast, sqlName}
-use Rattle.parts.specs.Names.{SqlStart, startsAt, notUtf8, nameStart, ExactStart, mostHeld, held, heldColons, walkAnswer}
+use Rattle.parts.specs.Names.{SqlStart, startsAt, notUtf8, nameStart, ExactStart, unbegun, mostHeld, held, heldColons, walkAnswer}
 use Rattle.parts.specs.Private.{endAfter}
-use Rattle.parts.specs.Theorems.{Start-exact, Walk-append, Walk-answer}
+use Rattle.parts.specs.Theorems.{Start-exact, Walk-append, Walk-answer, Walk-parts}
 use Rattle.parts.proofs.SqlName.{name-end}
 
 -- Counts that stop
@@ -173,6 +173,9 @@ walk-answer name h =
     let k : held (colonsAfter (unwalked false) name .end) ≡ length name - length (sqlName name) =
     held-small (colonsAfter (unwalked false) name .end) (omega (arith, e, h)) ∙ omega (arith, e) in
     ap (λ (n : ℕ). cond (utf8 name) (startsAt n) notUtf8) k
+
+pub walk-parts : Walk-parts
+walk-parts first rest h = ap walkAnswer (sym (walk-append unbegun first rest)) ∙ walk-answer (first ++ rest) h
 
 pub start-exact : Start-exact
 unfolding nameStart

@@ -48,3 +48,10 @@ Walk-append = (w : Standing) (l m : List ℕ) → walkedOver w (l ++ m) ≡ walk
 -- A walk over a whole name gives the answer for the name: `walk-answer` in Names.antt
 abbrev pub Walk-answer : Type 0
 Walk-answer = (name : List ℕ) → length name ≤ mostHeld → walkAnswer (walkedOver unbegun name) ≡ nameStart name
+
+-- A walk over a first part, and from there over the rest, gives the answer for the whole name, wherever the cut is: `walk-parts` in
+-- Names.antt
+abbrev pub Walk-parts : Type 0
+Walk-parts =
+    (first rest : List ℕ) → length (first ++ rest) ≤ mostHeld
+    → walkAnswer (walkedOver (walkedOver unbegun first) rest) ≡ nameStart (first ++ rest)

@@ -3,14 +3,13 @@ use Prim.Native.Nat.{ℕ, _+_, _<_, _%_, _/_, _^_}
 use native.Mathlib.Numerals.{add-one}
 use mathlib.Core.Bool.{true}
 use mathlib.Core.Path.{_≡_, refl, sym, ap, _∙_}
-use mathlib.Core.List.{List, [], _∷_}
+use mathlib.Core.List.{List, [], _∷_, foldl, foldl-append}
 use lib.Dec.{ltb, eqb}
 use lib.ListN.{length, take, getD}
 use lib.Seq.{take-suc, take-length}
 use borrow.Author.Tests.{ltb-true}
 use Rattle.text.specs.Walk.{State, start, tail-1, tail-2, tail-3, after-E0, after-ED, after-F0, after-F4, failed, step, wantedAfter, accepting}
 use Rattle.text.specs.Private.{code, Encodes, Follows}
-use Rattle.text.proofs.Exact.{wanted-append}
 
 -- The states in the order of their codes
 abbrev pub numbered : ℕ → State
@@ -43,9 +42,13 @@ code-accepting q = codes q .3
 pub code-injective : (p q : State) → code p ≡ code q → p ≡ q
 code-injective p q e = sym (numbered-code p) ∙ ap (λ (n : ℕ). numbered (n / 6)) e ∙ numbered-code q
 
+-- One more byte, for whatever is folded over the bytes
+pub fold-snoc : {A : Type 0} (f : A → ℕ → A) (a : A) (s : List ℕ) (i : ℕ) → i < length s → foldl f a (take (i + 1) s) ≡ f (foldl f a (take i s)) (getD s i 0)
+fold-snoc f a s i h = rw (add-one, take-suc s i 0, foldl-append)
+
 -- The walk over one more byte
 pub run-snoc : (p : State) (s : List ℕ) (i : ℕ) → i < length s → wantedAfter p (take (i + 1) s) ≡ step (wantedAfter p (take i s)) (getD s i 0)
-run-snoc p s i h = rw (add-one, take-suc s i 0, wanted-append)
+run-snoc p s i h = fold-snoc step p s i h
 
 -- The row of the byte's class, shifted to the place of the state, begins with the next state
 pub turn : {classes rows : List ℕ} → Encodes classes rows → (x b : ℕ) → b < 256 → Follows x b (getD rows (getD classes b 0) 0 / 2 ^ (x % 64))

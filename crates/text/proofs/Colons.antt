@@ -1,17 +1,17 @@
 -- The pairs of colons, one byte and two bytes further.
 use Prim.Native.Nat.{ℕ, _+_, _<_}
-use native.Mathlib.Numerals.{add-one}
 use native.Mathlib.Omega.{arith}
 use mathlib.Core.Bool.{Bool, true, false}
 use mathlib.Core.List.{List, [], _∷_, foldl-append}
 use mathlib.Core.Path.{_≡_, refl, sym, ap, _∙_}
 use lib.Dec.{eqb}
 use lib.ListN.{length, getD, take}
-use lib.Seq.{take-suc, take-length}
+use lib.Seq.{take-length}
 use borrow.Author.Tests.{eq-eqb, ne-eqb, eqb-true, eqb-false}
 use Rattle.text.specs.Colons.{Colons, colonStep, colonsAfter, unwalked}
 use Rattle.text.specs.Private.{Closed}
 use Rattle.text.specs.Theorems.{Colons-append}
+use Rattle.text.proofs.Codes.{fold-snoc}
 
 pub colons-append : Colons-append
 colons-append p l m = foldl-append colonStep p l m
@@ -32,7 +32,7 @@ module _ (p : Colons) (b : ℕ) where
 
 module _ (s : List ℕ) (opened : Bool) where
   one-more : (i : ℕ) → i < length s → colonsAfter (unwalked opened) (take (i + 1) s) ≡ colonStep (colonsAfter (unwalked opened) (take i s)) (getD s i 0)
-  one-more i h = rw (add-one, take-suc s i 0, colons-append)
+  one-more i h = fold-snoc colonStep (unwalked opened) s i h
 
   module _ (i e : ℕ) (z : Closed s opened i e) where
     pub closed-other : i < length s → (getD s i 0 ≡ 0x3A → ⊥) → Closed s opened (i + 1) e

@@ -37,34 +37,42 @@
  *
  * REFUSALS. The constant for a refusal is PGRXSC_REFUSAL_ and its name:
  *
- *   number  name             is returned when                                           place
- *   1       INPUT_TOO_LONG   there are more than PGRXSC_LIMIT bytes                     0
- *   2       PARTIAL_LENGTH   at a boundary one to three bytes are left, not all 0       the boundary
- *   3       ZERO_LENGTH      the length at a boundary is 0, and a byte after it         the length
- *                            is not 0
- *   4       ENTRY_TOO_LONG   the length at a boundary is more than the bytes after it   the length
- *   5       TRUNCATED        a read needs more bytes than the payload has left          where the read begins; of a text's
- *                                                                                       bytes, after its length
- *   6       BAD_FLAG         a flag is neither 0 nor 1                                  the flag
- *   7       NOT_UTF8         a text is not UTF-8 by RFC 3629                            its first byte
- *   8       UNKNOWN_KIND     the kind of an entity is unknown                           the kind
- *   9       UNKNOWN_TAG      another tag is unknown                                     the tag
- *   10      NO_SQL_TEXT      a declaration's mapping, or the one read for its SQL       the declaration's result, or
- *                            text, is neither As nor Numeric                            the offset given
- *   11      DECLARED_ERROR   a declaration's result is an error                         the result
- *   12      TRAILING_BYTES   bytes remain after the entity, the record or the mapping   the first of them
- *   13      TABLE_TOO_SMALL  the table has fewer whole rows than the reading needs      0
- *   14      BAD_ROWS         the rows given to a writer do not spell exactly one        0
- *                            record, mapping or entity, or for a section one
- *                            entity or more
- *   15      BAD_TEXT_ROW     a text row leaves the lent bytes or is not UTF-8 there,    0
- *                            or a row given as text is of another sort
- *   16      OUTPUT_TOO_LONG  the written length is more than PGRXSC_LIMIT               0
- *   17      BAD_BUFFER_SIZE  the destination is shorter than what is written, or the    0
- *                            buffer for an SQL text has not PGRXSC_SQL_TEXT_SIZE bytes
+ *   number  name                 is returned when                                           place
+ *   1       INPUT_TOO_LONG       there are more than PGRXSC_LIMIT bytes                     0
+ *   2       PARTIAL_LENGTH       at a boundary one to three bytes are left, not all 0       the boundary
+ *   3       ZERO_LENGTH          the length at a boundary is 0, and a byte after it         the length
+ *                                is not 0
+ *   4       ENTRY_TOO_LONG       the length at a boundary is more than the bytes after it   the length
+ *   5       TRUNCATED            a read needs more bytes than the payload has left          where the read begins; of a text's
+ *                                                                                           bytes, after its length
+ *   6       BAD_FLAG             a flag is neither 0 nor 1                                  the flag
+ *   7       NOT_UTF8             a text is not UTF-8 by RFC 3629                            its first byte
+ *   8       UNKNOWN_KIND         the kind of an entity is unknown                           the kind
+ *   9       UNKNOWN_TAG          another tag is unknown                                     the tag
+ *   10      NO_SQL_TEXT          a declaration's mapping, or the one read for its SQL       the declaration's result, or
+ *                                text, is neither As nor Numeric                            the offset given
+ *   11      DECLARED_ERROR       a declaration's result is an error                         the result
+ *   12      TRAILING_BYTES       bytes remain after the entity, the record or the mapping   the first of them
+ *   13      TABLE_TOO_SMALL      the table has fewer whole rows than the reading needs      0
+ *   14      BAD_ROWS             the rows given to a writer do not spell exactly one        0
+ *                                record, mapping or entity, or for a section one
+ *                                entity or more
+ *   15      BAD_TEXT_ROW         a text row leaves the lent bytes or is not UTF-8 there,    0
+ *                                or a row given as text is of another sort
+ *   16      OUTPUT_TOO_LONG      the written length is more than PGRXSC_LIMIT               0
+ *   17      BAD_BUFFER_SIZE      the destination is shorter than what is written, or the    0
+ *                                buffer for an SQL text has not PGRXSC_SQL_TEXT_SIZE bytes
+ *   18      NOT_ELF64            the file is no 64-bit little-endian ELF file with section  0
+ *                                headers of 64 bytes
+ *   19      BAD_SECTION_HEADERS  the file has no section headers or no section name table,  0
+ *                                or one of the two tables ends past the file, or the
+ *                                section found does, unless its type is 8
+ *   20      NO_SUCH_SECTION      no section has the name given, or the section found is of  0
+ *                                type 8 (SHT_NOBITS), without bytes in the file
  *
  * A boundary is the section's start or the end of an entry. 1 comes first, then 2 to 4 at the first bad boundary, then 5 to 12
- * at the first bad read, then 13. A writer's refusals come in the order 14 to 17.
+ * at the first bad read, then 13. A writer's refusals come in the order 14 to 17. Those of finding a section in a file come in
+ * the order 18 to 20.
  */
 #ifndef PGRXSC_H
 #define PGRXSC_H
@@ -97,6 +105,9 @@ uint32_t pgrxsc_version(void);
 
 /* The bytes of the buffer for an SQL text. */
 #define PGRXSC_SQL_TEXT_SIZE 31
+
+/* The name of the schema section in an extension's ELF file. */
+#define PGRXSC_ELF_SECTION_NAME ".pgrxsc"
 
 /* The sorts of rows. */
 #define PGRXSC_SORT_KIND 1
@@ -135,6 +146,20 @@ uint32_t pgrxsc_version(void);
 #define PGRXSC_REFUSAL_BAD_TEXT_ROW 15
 #define PGRXSC_REFUSAL_OUTPUT_TOO_LONG 16
 #define PGRXSC_REFUSAL_BAD_BUFFER_SIZE 17
+#define PGRXSC_REFUSAL_NOT_ELF64 18
+#define PGRXSC_REFUSAL_BAD_SECTION_HEADERS 19
+#define PGRXSC_REFUSAL_NO_SUCH_SECTION 20
+
+/*
+ * Finds a section of a 64-bit little-endian ELF file by its name: PGRXSC_ELF_SECTION_NAME for the schema section of an extension.
+ * a is the section's start in the file, b its length; nothing is copied. The file may have any length. The part found then goes
+ * to pgrxsc_read_section, which tests its length, and whose offsets and places count from the part's start.
+ *
+ * The name is lent without a zero byte at its end. The section is that of the first section header, from index 1 on, whose name
+ * in the section name table equals the given one and is followed there by a zero byte inside the table. An empty name and one
+ * that holds a zero byte find nothing. Extended numbering is not supported. Refusals 18 to 20.
+ */
+void pgrxsc_find_section(const uint8_t *file, size_t file_len, const uint8_t *name, size_t name_len, uint64_t answer[4]);
 
 /*
  * Reads a whole section: entries, then padding. a is the number of entities, b the number of rows. The table then has the rows,

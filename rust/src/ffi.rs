@@ -18,6 +18,13 @@ const UNANSWERED: Answer = [u64::MAX; 4];
 mod archive {
     extern "C" {
         pub fn pgrxsc_version() -> u32;
+        pub fn pgrxsc_find_section(
+            file: *const u8,
+            file_len: usize,
+            name: *const u8,
+            name_len: usize,
+            answer: *mut u64,
+        );
         pub fn pgrxsc_read_section(
             bytes: *const u8,
             len: usize,
@@ -164,6 +171,24 @@ fn compare_version(archive: u32) {
          `rt staticlib pgrxsc` in the repository that has the crate, or name the folder of an \
          archive made from the same state of the repository in the environment variable PGRXSC_LIB."
     );
+}
+
+/// a is the section's start in the file, b its length.
+pub(crate) fn find_section(file: &[u8], name: &[u8]) -> Answer {
+    check_version();
+    let mut answer = UNANSWERED;
+    // SAFETY: the pointers and lengths are those of slices; the answer has four numbers and
+    // overlaps nothing.
+    unsafe {
+        archive::pgrxsc_find_section(
+            file.as_ptr(),
+            file.len(),
+            name.as_ptr(),
+            name.len(),
+            answer.as_mut_ptr(),
+        );
+    }
+    answer
 }
 
 /// What bytes are read as.

@@ -8,6 +8,22 @@
 //! lends their archive the slices, and gives its answers as Rust types. `docs/FORMAT.md` in the
 //! repository describes the format, its rows and the refusals.
 //!
+//! [`find_section`] finds the section in the extension's file, as a part of the file, and
+//! [`read_section`] reads it, here with the table that a [`Table`] holds:
+//!
+//! ```no_run
+//! use pgrxsc::{find_section, Table, ELF_SECTION_NAME};
+//!
+//! let file = std::fs::read("extension.so")?;
+//! let section = find_section(&file, ELF_SECTION_NAME)?;
+//! let mut table = Table::new();
+//! let reading = table.read_section(section)?;
+//! println!("{} entities", reading.entities().len());
+//! # Ok::<(), Box<dyn std::error::Error>>(())
+//! ```
+//!
+//! The reading has the entities, with their kinds, texts and other values:
+//!
 //! ```
 //! use pgrxsc::{EntityKind, Refusal, Table};
 //!
@@ -73,6 +89,7 @@
 #![deny(missing_docs)]
 
 pub mod builder;
+mod elf;
 #[allow(unsafe_code)]
 mod ffi;
 mod parts;
@@ -82,6 +99,7 @@ mod row;
 mod table;
 mod writing;
 
+pub use elf::find_section;
 pub use parts::{is_text, name_start, path_repeats, row_text, sql_name, sql_text};
 pub use reading::{
     read_mapping, read_metadata, read_payload, read_section, Entities, Entity, Reading, Rows, Texts,
@@ -104,6 +122,9 @@ pub const VERSION: u32 = 2;
 
 /// The most bytes that are read or written: 16 MiB.
 pub const LIMIT: usize = 16_777_216;
+
+/// The name of the schema section in an extension's ELF file. [`find_section`] finds it.
+pub const ELF_SECTION_NAME: &str = ".pgrxsc";
 
 /// How many numbers of a table make a row.
 pub const ROW_WIDTH: usize = 3;

@@ -2,7 +2,8 @@ use crate::ffi::Answer;
 use crate::{LIMIT, SQL_TEXT_SIZE};
 use std::fmt;
 
-/// Why bytes were not read or rows not written: a number, and a place in the bytes.
+/// Why bytes were not read, rows not written or a section not found: a number, and a place in the
+/// bytes.
 ///
 /// Each number has a name, as a [`RefusalKind`]:
 ///
@@ -25,10 +26,14 @@ use std::fmt;
 /// | 15 | [`BadTextRow`] | a text row lies outside the bytes or is not UTF-8 there, or a row given as text is none | 0 |
 /// | 16 | [`OutputTooLong`] | more than [`LIMIT`] bytes would be written | 0 |
 /// | 17 | [`BadBufferSize`] | the destination is too short, or the buffer for an SQL text has not [`SQL_TEXT_SIZE`] bytes | 0 |
+/// | 18 | [`NotElf64`] | the file is no 64-bit little-endian ELF file with section headers of 64 bytes | 0 |
+/// | 19 | [`BadSectionHeaders`] | the file has no section headers or no section name table, or one of the two tables ends past the file, or the section found does, unless its type is 8 | 0 |
+/// | 20 | [`NoSuchSection`] | no section has the name given, or the section found is of type 8 (`SHT_NOBITS`), without bytes in the file | 0 |
 ///
 /// A reading gives 1 before all others; then 2 to 4, for the first entry that is wrong in this way;
 /// then 5 to 12, for the first value that is; then 13, which so says that nothing is wrong with the
-/// bytes. A writer gives the first of 14 to 17 that applies.
+/// bytes. A writer gives the first of 14 to 17 that applies, and [`find_section`] the first of 18 to
+/// 20.
 ///
 /// ```
 /// use pgrxsc::{read_section, Refusal, RefusalKind};
@@ -57,6 +62,10 @@ use std::fmt;
 /// [`BadTextRow`]: RefusalKind::BadTextRow
 /// [`OutputTooLong`]: RefusalKind::OutputTooLong
 /// [`BadBufferSize`]: RefusalKind::BadBufferSize
+/// [`NotElf64`]: RefusalKind::NotElf64
+/// [`BadSectionHeaders`]: RefusalKind::BadSectionHeaders
+/// [`NoSuchSection`]: RefusalKind::NoSuchSection
+/// [`find_section`]: crate::find_section
 #[derive(Clone, Copy, Debug, PartialEq, Eq, Hash)]
 pub struct Refusal {
     number: u32,
@@ -69,12 +78,12 @@ impl Refusal {
         Refusal { number, place }
     }
 
-    /// Which refusal it is, 1 to 17.
+    /// Which refusal it is, 1 to 20.
     pub const fn number(self) -> u32 {
         self.number
     }
 
-    /// Which refusal it is, by name. `None` for another number than 1 to 17, which only
+    /// Which refusal it is, by name. `None` for another number than 1 to 20, which only
     /// [`Refusal::new`] can give it.
     pub const fn kind(self) -> Option<RefusalKind> {
         RefusalKind::from_number(self.number)
@@ -127,15 +136,22 @@ pub enum RefusalKind {
     OutputTooLong = 16,
     /// The destination is too short, or the buffer for an SQL text is of another size.
     BadBufferSize = 17,
+    /// The file is no 64-bit little-endian ELF file with section headers of 64 bytes.
+    NotElf64 = 18,
+    /// The file has no section headers or no section name table, or one of the two tables, or the
+    /// section found, ends past the file.
+    BadSectionHeaders = 19,
+    /// No section of the file has the name given, or the one found has no bytes in the file.
+    NoSuchSection = 20,
 }
 
 impl RefusalKind {
-    /// The refusal's number, 1 to 17.
+    /// The refusal's number, 1 to 20.
     pub const fn number(self) -> u32 {
         self as u32
     }
 
-    /// The refusal of a number, if it is 1 to 17.
+    /// The refusal of a number, if it is 1 to 20.
     pub const fn from_number(number: u32) -> Option<RefusalKind> {
         Some(match number {
             1 => RefusalKind::InputTooLong,
@@ -155,6 +171,9 @@ impl RefusalKind {
             15 => RefusalKind::BadTextRow,
             16 => RefusalKind::OutputTooLong,
             17 => RefusalKind::BadBufferSize,
+            18 => RefusalKind::NotElf64,
+            19 => RefusalKind::BadSectionHeaders,
+            20 => RefusalKind::NoSuchSection,
             _ => return None,
         })
     }
@@ -162,14 +181,14 @@ impl RefusalKind {
 
 /// The numbers a and b of an answer, or its refusal.
 pub(crate) fn accepted([number, place, a, b]: Answer) -> Result<(usize, usize), Refusal> {
-    let size = |n: u64| usize::try_from(n).expect("the archive counts no further than LIMIT");
+    let size = |n: u64| usize::try_from(n).expect("the archive counts no further than usize goes");
     if number == 0 {
         return Ok((size(a), size(b)));
     }
     let kind = u32::try_from(number)
         .ok()
         .and_then(RefusalKind::from_number)
-        .expect("the archive gives a refusal by a number of 1 to 17");
+        .expect("the archive gives a refusal by a number of 1 to 20");
     Err(Refusal::new(kind.number(), size(place)))
 }
 
@@ -235,6 +254,19 @@ impl fmt::Display for Refusal {
                 f,
                 "the destination is too short, or the buffer for an SQL text has not \
                  {SQL_TEXT_SIZE} bytes"
+            ),
+            RefusalKind::NotElf64 => write!(
+                f,
+                "the file is no 64-bit little-endian ELF file with section headers of 64 bytes"
+            ),
+            RefusalKind::BadSectionHeaders => write!(
+                f,
+                "the file has no section headers or no section name table, or one of the two \
+                 tables, or the section found, ends past the file"
+            ),
+            RefusalKind::NoSuchSection => write!(
+                f,
+                "the file has no section of that name, or one without bytes in the file"
             ),
         }?;
         write!(f, " (refusal {number})")

@@ -1,6 +1,8 @@
 //! The crate beside `include/pgrxsc.h`: the same constants, and the same functions.
 
-use pgrxsc::{EntityKind, RefusalKind, Sort, LIMIT, ROW_WIDTH, SQL_TEXT_SIZE, VERSION};
+use pgrxsc::{
+    EntityKind, RefusalKind, Sort, ELF_SECTION_NAME, LIMIT, ROW_WIDTH, SQL_TEXT_SIZE, VERSION,
+};
 use std::collections::{BTreeMap, BTreeSet};
 use std::fmt::Debug;
 
@@ -40,11 +42,19 @@ fn numbered() -> BTreeMap<String, u64> {
 #[test]
 fn constants() {
     let mut expected = numbered();
-    assert_eq!(expected.len(), 6 + 9 + 17);
+    assert_eq!(expected.len(), 6 + 9 + 20);
     expected.insert("PGRXSC_VERSION".into(), VERSION.into());
     expected.insert("PGRXSC_LIMIT".into(), LIMIT as u64);
     expected.insert("PGRXSC_ROW_WIDTH".into(), ROW_WIDTH as u64);
     expected.insert("PGRXSC_SQL_TEXT_SIZE".into(), SQL_TEXT_SIZE as u64);
+    let numbers = expected.into_iter();
+    let mut expected: BTreeMap<String, String> = numbers
+        .map(|(name, number)| (name, number.to_string()))
+        .collect();
+    expected.insert(
+        "PGRXSC_ELF_SECTION_NAME".into(),
+        format!("\"{ELF_SECTION_NAME}\""),
+    );
 
     let mut header = BTreeMap::new();
     for line in HEADER.lines() {
@@ -56,8 +66,8 @@ fn constants() {
             assert_eq!(define, "PGRXSC_H");
             continue;
         };
-        let value = value.parse().unwrap_or_else(|_| panic!("{line}"));
-        assert_eq!(header.insert(name.to_string(), value), None, "{line}");
+        let value = header.insert(name.to_string(), value.to_string());
+        assert_eq!(value, None, "{line}");
     }
     assert_eq!(header, expected);
 }

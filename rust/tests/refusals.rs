@@ -1,4 +1,4 @@
-//! Each refusal of a reading, and the sentences of all.
+//! Each refusal of a reading, and the names and sentences of all.
 
 mod common;
 
@@ -106,7 +106,24 @@ fn sentences() {
         (
             18,
             0,
-            "the reason at byte 0 is one that this crate does not know (refusal 18)",
+            "the file is no 64-bit little-endian ELF file with section headers of 64 bytes \
+             (refusal 18)",
+        ),
+        (
+            19,
+            0,
+            "the file has no section headers or no section name table, or one of the two tables, \
+             or the section found, ends past the file (refusal 19)",
+        ),
+        (
+            20,
+            0,
+            "the file has no section of that name, or one without bytes in the file (refusal 20)",
+        ),
+        (
+            21,
+            0,
+            "the reason at byte 0 is one that this crate does not know (refusal 21)",
         ),
     ] {
         assert_eq!(Refusal::new(number, place).to_string(), sentence);
@@ -116,7 +133,7 @@ fn sentences() {
 #[test]
 fn a_sentence_for_each() {
     let mut sentences = HashSet::new();
-    for number in 1..=17 {
+    for number in 1..=20 {
         let refusal = Refusal::new(number, 98765);
         let sentence = refusal.to_string();
         let reason = sentence
@@ -132,17 +149,17 @@ fn a_sentence_for_each() {
         );
         sentences.insert(reason.to_string());
     }
-    assert_eq!(sentences.len(), 17);
+    assert_eq!(sentences.len(), 20);
 }
 
 #[test]
 fn names() {
-    for number in 1..=17 {
+    for number in 1..=20 {
         let kind = Refusal::new(number, 5).kind().unwrap();
         assert_eq!(kind.number(), number);
         assert_eq!(RefusalKind::from_number(number), Some(kind));
     }
-    for number in [0, 18, u32::MAX] {
+    for number in [0, 21, u32::MAX] {
         assert_eq!(RefusalKind::from_number(number), None);
         assert_eq!(Refusal::new(number, 5).kind(), None);
     }

@@ -17,7 +17,7 @@ use Rattle.section.specs.Section.{reading}
 use Rattle.section.specs.Demand3.{Demand3}
 use Rattle.decimal.specs.Decimal.{decimal}
 use Rattle.decimal.proofs.Numeral.{most-64}
-use Rattle.listing.specs.Listing.{mostBytes, lentTable, further, line, rowLines, lines, listing, atStart}
+use Rattle.listing.specs.Listing.{mostBytes, lentTable, further, line, longLine, refusalLine, rowLines, lines, listing, atStart}
 use Rattle.listing.specs.Private.{Place, place, putByte, putAll}
 use Rattle.listing.proofs.Places.{put-append, put-start}
 
@@ -97,10 +97,13 @@ rows-there s table (Accepted entities rows) after l d =
 rows-there s table (Refused refusal) after l d = omega arith
 
 -- The line of a refusal
-pub refuse-put : (number at n : ℕ) (table : List ℕ) (p t : Place) → n ≡ number → t ≡ putAll (line (ascii "refuse" ∷ decimal n ∷ decimal at ∷ [])) p
-    → t ≡ putAll (lines (refused number at) table) p
+pub refuse-put : (number at n : ℕ) (p t : Place) → n ≡ number → t ≡ putAll (line (ascii "refuse" ∷ decimal n ∷ decimal at ∷ [])) p
+    → t ≡ putAll (refusalLine number at) p
+refuse-put number at n p t w e = e ∙ rw w
+
+pub refuse-lines : (number at : ℕ) (table : List ℕ) → lines (refused number at) table ≡ refusalLine number at
 unfolding lines
-refuse-put number at n table p t w e = e ∙ rw w
+refuse-lines number at table = refl
 
 -- A line of one word
 pub word-put : (w : List ℕ) (p q t : Place) → q ≡ putAll w p → t ≡ putByte 0x0A q → t ≡ putAll (line (w ∷ [])) p
@@ -108,7 +111,7 @@ unfolding line further putAll
 word-put w p q t e f = f ∙ rw e (sym (put-append w (0x0A ∷ []) p))
 
 -- The two cases of a listing
-pub long-listing : (s : List ℕ) → mostBytes < length s → listing s ≡ line (ascii "long" ∷ [])
+pub long-listing : (s : List ℕ) → mostBytes < length s → listing s ≡ longLine
 unfolding listing
 long-listing s h = rw (lt-leb (length s) mostBytes h)
 

@@ -65,3 +65,9 @@ put-between (x ∷ l) before (y ∷ after) at e =
 pub put-start : (l out after : List ℕ) (r : ℕ) → place after r ≡ putAll l (place out 0) → (r ≡ length l) × (after ≡ atStart l out)
 put-start l out after r e =
     (omega (arith, place-after l (place out 0) (place after r) e), ap (λ (p : Place). p .out) e ∙ put-between l [] out 0 refl)
+
+pub start-put : (l out after : List ℕ) (r : ℕ) → r ≡ length l → after ≡ atStart l out → place after r ≡ putAll l (place out 0)
+start-put l out after r e f =
+    let p = putAll l (place out 0) in
+    let (g, h) = put-start l out (p .out) (p .at) refl in
+    rw (e ∙ sym g, f ∙ sym h)

@@ -32,6 +32,14 @@ unfoldable pub line : List (List ℕ) → List ℕ
 line [] = ascii "\n"
 line (w ∷ ws) = w ++ further ws
 
+-- The line of an input that is too long to be listed
+abbrev pub longLine : List ℕ
+longLine = line (ascii "long" ∷ [])
+
+-- The line of a refusal
+abbrev pub refusalLine : (number place : ℕ) → List ℕ
+refusalLine number place = line (ascii "refuse" ∷ decimal number ∷ decimal place ∷ [])
+
 -- A line for each of the first rows of a table
 unfoldable pub rowLines : (rows : ℕ) → List ℕ → List ℕ
 rowLines zero table = []
@@ -42,7 +50,7 @@ unfoldable pub lines : Answer → List ℕ → List ℕ
 lines a table =
     cond (a .accepts)
     (line (ascii "accept" ∷ decimal (a .entities) ∷ decimal (a .rows) ∷ []) ++ rowLines (a .rows) table)
-    (line (ascii "refuse" ∷ decimal (a .number) ∷ decimal (a .place) ∷ []))
+    (refusalLine (a .number) (a .place))
 
 -- The lines of a result
 abbrev pub resultLines : Result → List ℕ
@@ -50,7 +58,7 @@ resultLines r = lines (r .answer) (r .table)
 
 -- The listing of the bytes s
 unfoldable pub listing : List ℕ → List ℕ
-listing s = cond (leb (length s) mostBytes) (resultLines (reading s lentTable)) (line (ascii "long" ∷ []))
+listing s = cond (leb (length s) mostBytes) (resultLines (reading s lentTable)) longLine
 
 -- No listing is longer: one line for the counts, of at most 20 digits each, and one for each row, with numbers of at most 10
 -- digits

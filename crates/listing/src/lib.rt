@@ -1,6 +1,7 @@
 // The listing of a section: what its reading answers, as lines of text.
 use layout::ROW_WIDTH;
 use table::Answer;
+use table::Refusal;
 ghost use mathlib.Core.List.{[], _∷_, map};
 ghost use mathlib.Core.Path.{_≡_};
 ghost use Prim.Native.Nat.{_+_, _*_, _^_, _≤_, _<_};
@@ -9,7 +10,7 @@ ghost use Rattle.layout.specs.Written.{rowWidth};
 ghost use Rattle.layout.specs.Answers.{wholeRows};
 ghost use Rattle.table.specs.Answers.{answerOf};
 ghost use Rattle.decimal.specs.Decimal.{decimal};
-ghost use Rattle.listing.specs.Listing.{lentRows, lentTable, line, rowLines, lines, listing, mostListed, atStart};
+ghost use Rattle.listing.specs.Listing.{lentRows, lentTable, line, longLine, refusalLine, rowLines, lines, listing, mostListed, atStart};
 ghost use Rattle.listing.specs.Private.{place, putByte, putAll};
 
 // The most bytes of a section that is listed.
@@ -30,12 +31,35 @@ pub fn listing(input: &[u8], out: &mut [u8]) -> usize
     ensures { λ r. ⌜ r ≤ mostListed ⌝ }
 {
     if MOST_BYTES < input.len() {
-        let at = put(out, 0, b"long");
-        return put_byte(out, at, b'\n');
+        return list_long(out);
     }
     let mut table = lent_table();
     let answer = section::decode_entities(input, &mut table);
     put_answer(out, answer, &table)
+}
+
+// The same with the line of an input that is too long.
+pub fn list_long(out: &mut [u8]) -> usize
+    ensures { λ r. ⌜ r ≡ length longLine ⌝ }
+    ensures { λ r. ⌜ now (out .exit) ≡ atStart longLine (now (out .entry)) ⌝ }
+    ensures { λ r. ⌜ r ≤ mostListed ⌝ }
+{
+    let at = put(out, 0, b"long");
+    put_byte(out, at, b'\n')
+}
+
+// The same with the line of a refusal.
+pub fn list_refusal(refusal: Refusal, out: &mut [u8]) -> usize
+    ensures { λ r. ⌜ r ≡ length (refusalLine (refusal .number) (refusal .place)) ⌝ }
+    ensures { λ r. ⌜ now (out .exit) ≡ atStart (refusalLine (refusal .number) (refusal .place)) (now (out .entry)) ⌝ }
+    ensures { λ r. ⌜ r ≤ mostListed ⌝ }
+{
+    put_counts(
+        out,
+        b"refuse",
+        wide(refusal.number),
+        refusal.place as u64,
+    )
 }
 
 // The table before the reading.
@@ -57,12 +81,7 @@ fn put_answer(out: &mut [u8], answer: Answer, table: &[u32]) -> usize
             let at = put_counts(out, b"accept", entities as u64, rows as u64);
             put_rows(out, at, table, rows)
         }
-        Answer::Refused(refusal) => put_counts(
-            out,
-            b"refuse",
-            wide(refusal.number),
-            refusal.place as u64,
-        ),
+        Answer::Refused(refusal) => list_refusal(refusal, out),
     }
 }
 

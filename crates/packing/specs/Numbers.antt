@@ -1,5 +1,5 @@
 -- How an answer is told in four numbers: the refusal's number and place, or 0 and 0; then what is answered, or 0 and 0.
-use Prim.Native.Nat.{ℕ, _-_}
+use Prim.Native.Nat.{ℕ, _+_, _-_}
 use mathlib.Core.Bool.{cond}
 use mathlib.Core.List.{List, [], _∷_}
 use lib.Dec.{eqb}
@@ -36,6 +36,11 @@ resultIn ns table = record { answer = answerIn ns; table = table }
 abbrev pub partNumbers : Outcome ℕ ℕ → List ℕ
 partNumbers (ok start end) = 0 ∷ 0 ∷ start ∷ (end - start) ∷ []
 partNumbers (refuse number place) = refusalNumbers number place
+
+-- The part that four numbers tell, from its start up to its end, or the refusal
+abbrev pub partTold : List ℕ → Outcome ℕ ℕ
+partTold ns =
+    cond (eqb (getD ns 0 0) 0) (ok (getD ns 2 0) (getD ns 2 0 + getD ns 3 0)) (refuse (getD ns 0 0) (getD ns 1 0))
 
 -- An SQL text: its start, in the bytes or in the buffer, and its length
 abbrev pub placeNumbers : SqlAnswer → List ℕ

@@ -1,14 +1,14 @@
 // How an answer is packed into four numbers: a refusal's number and place, or 0 and 0; then what is answered, or 0 and 0.
 use length::Length;
 use parts::NameStart;
-use parts::TextPlace;
 use paths::PathReport;
+use place::PartPlace;
 use sql_text::SqlPlace;
 use table::Answer;
 use table::Refusal;
 ghost use mathlib.Core.Path.{_≡_};
 ghost use Rattle.table.specs.Answers.{answerOf};
-ghost use Rattle.parts.specs.Parts.{foundPart};
+ghost use Rattle.place.specs.Place.{foundPart};
 ghost use Rattle.parts.specs.Names.{startOf};
 ghost use Rattle.sql_text.specs.SqlText.{sqlAnswerOf};
 ghost use Rattle.length.specs.Length.{lengthOf};
@@ -33,12 +33,12 @@ pub fn refusal_numbers(refusal: Refusal) -> [u64; 4]
 }
 
 // A part of the bytes, as an answer.
-pub fn part_numbers(place: TextPlace) -> [u64; 4]
+pub fn part_numbers(place: PartPlace) -> [u64; 4]
     ensures { λ r. ⌜ r ≡ partNumbers (foundPart place) ⌝ }
 {
     match place {
-        TextPlace::Section { start, len } => [0, 0, start as u64, len as u64],
-        TextPlace::Refused(refusal) => refusal_numbers(refusal),
+        PartPlace::Part { start, len } => [0, 0, start as u64, len as u64],
+        PartPlace::Refused(refusal) => refusal_numbers(refusal),
     }
 }
 

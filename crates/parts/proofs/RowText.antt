@@ -15,10 +15,11 @@ use Rattle.layout.specs.Answers.{limit}
 use Rattle.layout.proofs.Equations.{read-text}
 use Rattle.table.specs.declared.Row.{Row}
 use Rattle.table.specs.declared.Refusal.{Refusal}
-use Rattle.parts.specs.declared.TextPlace.{TextPlace}
-use Rattle.parts.specs.declared.TextPlace.the-variants.{Section, Refused}
-use Rattle.parts.specs.Parts.{between, rowText, numberIn, foundPart}
-use Rattle.parts.specs.Private.{LiesIn, Untested}
+use Rattle.place.specs.declared.PartPlace.{PartPlace}
+use Rattle.place.specs.declared.PartPlace.the-variants.{Refused}
+use Rattle.place.specs.Place.{between, numberIn, foundPart}
+use Rattle.parts.specs.Parts.{rowText}
+use Rattle.parts.specs.Private.{Untested}
 use Rattle.parts.specs.Theorems.{Row-lies, Row-part}
 use Rattle.text.specs.Rfc3629.{Utf8}
 use Rattle.text.specs.Walk as automaton
@@ -60,7 +61,7 @@ module _ (s : List ℕ) (row : Row) where
         go false t = refl
 
   -- A refusal is that of the row
-  pub refused : (p : TextPlace) (refusal : Refusal) → Untested s row (foundPart p) → p ≡ Refused refusal → rowText s row ≡ refuse (refusal .number) (refusal .place)
+  pub refused : (p : PartPlace) (refusal : Refusal) → Untested s row (foundPart p) → p ≡ Refused refusal → rowText s row ≡ refuse (refusal .number) (refusal .place)
   refused p refusal u e = rw e at u
 
   -- A row that is not refused
@@ -84,11 +85,6 @@ row-lies s row start end e =
     let a : start ≡ row .offset = cc in
     let b : end ≡ row .offset + row .value = cc in
     (omega arith, omega arith)
-
--- So does its part
-pub row-lies-in : (s : List ℕ) (row : Row) (p : TextPlace) → foundPart p ≡ rowText s row → LiesIn (length s) p
-row-lies-in s row (Section start len) e = row-lies s row start (start + len) (sym e) .1
-row-lies-in s row (Refused refusal) e = tt
 
 -- What is read as a text
 read-body : (s : List ℕ) (at : ℕ) (t : List ℕ) (end : ℕ) → read text s at ≡ ok (string t ∷ []) end

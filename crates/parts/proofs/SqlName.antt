@@ -10,16 +10,11 @@ use lib.Seq.{drop-cons, drop-drop, length-take-le}
 use Rattle.layout.specs.Reading.{Outcome, ok, refuse}
 use Rattle.layout.proofs.InBytes.{drop-take}
 use Rattle.table.specs.declared.Row.{Row}
-use Rattle.parts.specs.declared.TextPlace.{TextPlace}
-use Rattle.parts.specs.declared.TextPlace.the-variants.{Section, Refused}
-use Rattle.parts.specs.Parts.{between, rowText, partOf, numberIn, placeIn, colon, afterLast, sqlName, sqlNameIn, foundPart}
+use Rattle.place.specs.Place.{between, partOf, numberIn, placeIn}
+use Rattle.place.proofs.Between.{length-between}
+use Rattle.parts.specs.Parts.{rowText, colon, afterLast, sqlName, sqlNameIn}
 use Rattle.parts.specs.Theorems.{Name-end, Name-part, Name-cases}
-use Rattle.parts.specs.Private.{LiesIn}
 use Rattle.parts.proofs.RowText.{row-lies}
-
--- How long a part is
-pub length-between : (s : List ℕ) (start end : ℕ) → start ≤ end → end ≤ length s → length (between s start end) ≡ end - start
-length-between s start end h k = length-take-le (end - start) (drop start s) (omega (arith, length-drop start s))
 
 -- l is the end of a name
 abbrev End : (name l : List ℕ) → Type 0
@@ -87,12 +82,3 @@ name-placed s start len before o e h k q =
 pub name-refusal : (s : List ℕ) (o : Outcome ℕ ℕ) → (numberIn (sqlNameIn s o) ≡ numberIn o) × (placeIn (sqlNameIn s o) ≡ placeIn o)
 name-refusal s (ok start end) = (refl, refl)
 name-refusal s (refuse n p) = (refl, refl)
-
--- Its part lies in the bytes
-pub name-lies-in : (s : List ℕ) (row : Row) (p : TextPlace) → foundPart p ≡ sqlNameIn s (rowText s row) → LiesIn (length s) p
-name-lies-in s row (Section start len) e = go (rowText s row) refl e
-  where
-    go : (o : Outcome ℕ ℕ) → rowText s row ≡ o → ok start (start + len) ≡ sqlNameIn s o → start + len ≤ length s
-    go (ok a b) k q = let z : start + len ≡ b = cc in omega (arith, row-lies s row a b k .1)
-    go (refuse n p) k q = let z : _≡_ {A = ℕ} 0 1 = cc in absurd (omega arith)
-name-lies-in s row (Refused refusal) e = tt

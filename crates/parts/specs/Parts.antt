@@ -8,12 +8,7 @@ use Rattle.layout.specs.Written.{textSort}
 use Rattle.layout.specs.Reading.{Outcome, ok, refuse, need, utf8, enough}
 use Rattle.layout.specs.Answers.{limit}
 use Rattle.table.specs.declared.Row.{Row}
-use Rattle.parts.specs.declared.TextPlace.{TextPlace}
-use Rattle.parts.specs.declared.TextPlace.the-variants.{Section, Refused}
-
--- The part of some bytes from a start up to an end
-abbrev pub between : List ℕ → (start end : ℕ) → List ℕ
-between s start end = take (end - start) (drop start s)
+use Rattle.place.specs.Place.{between}
 
 -- A row that is a text of the bytes given: it has the sort of a text, it is within the bytes, and they are valid UTF-8 there
 abbrev pub isText : List ℕ → Row → Bool
@@ -22,22 +17,6 @@ isText s row = eqb (row .sort) textSort && (enough s (row .offset) (row .value) 
 -- The text of a row, by its start and its end: 1; then 15
 unfoldable pub rowText : List ℕ → Row → Outcome ℕ ℕ
 rowText s row = need (leb (length s) limit) 1 0 (need (isText s row) 15 0 (ok (row .offset) (row .offset + row .value)))
-
--- The part that an outcome gives: empty after a refusal
-abbrev pub partOf : List ℕ → Outcome ℕ ℕ → List ℕ
-partOf s (ok start end) = between s start end
-partOf s (refuse n p) = []
-
-module _ {A : Type 0} where
-  -- The number of a refusal, 0 on acceptance
-  abbrev pub numberIn : Outcome ℕ A → ℕ
-  numberIn (ok a end) = 0
-  numberIn (refuse n p) = n
-
-  -- The place of a refusal, 0 on acceptance
-  abbrev pub placeIn : Outcome ℕ A → ℕ
-  placeIn (ok a end) = 0
-  placeIn (refuse n p) = p
 
 -- The byte `:`
 abbrev pub colon : ℕ
@@ -58,8 +37,3 @@ sqlName name = afterLast name name
 abbrev pub sqlNameIn : List ℕ → Outcome ℕ ℕ → Outcome ℕ ℕ
 sqlNameIn s (ok start end) = ok (end - length (sqlName (between s start end))) end
 sqlNameIn s (refuse n p) = refuse n p
-
--- The meaning of each case of the code's answer: a start and an end; or a refusal's number and place
-abbrev pub foundPart : TextPlace → Outcome ℕ ℕ
-foundPart (Section start len) = ok start (start + len)
-foundPart (Refused refusal) = refuse (refusal .number) (refusal .place)

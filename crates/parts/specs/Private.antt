@@ -7,14 +7,8 @@ use lib.Dec.{eqb}
 use lib.ListN.{length}
 use Rattle.layout.specs.Reading.{Outcome, ok, refuse, need, utf8}
 use Rattle.table.specs.declared.Row.{Row}
-use Rattle.parts.specs.declared.TextPlace.{TextPlace}
-use Rattle.parts.specs.declared.TextPlace.the-variants.{Section, Refused}
-use Rattle.parts.specs.Parts.{between, rowText}
-
--- What was found is within a section of n bytes
-abbrev pub LiesIn : ℕ → TextPlace → Type 0
-LiesIn n (Section start len) = start + len ≤ n
-LiesIn n (Refused refusal) = Unit {0}
+use Rattle.place.specs.Place.{between}
+use Rattle.parts.specs.Parts.{rowText}
 
 -- What was found is the row's text, except that its bytes may still not be UTF-8
 abbrev pub Untested : List ℕ → Row → Outcome ℕ ℕ → Type 0

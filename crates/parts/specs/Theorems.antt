@@ -10,7 +10,8 @@ use Rattle.layout.specs.Written.{rowAt}
 use Rattle.layout.specs.Reading.{ok, read}
 use Rattle.layout.specs.Answers.{limit}
 use Rattle.table.specs.declared.Row.{Row}
-use Rattle.parts.specs.Parts.{rowText, partOf, sqlName, sqlNameIn}
+use Rattle.place.specs.Place.{partOf}
+use Rattle.parts.specs.Parts.{rowText, sqlName, sqlNameIn}
 use Rattle.parts.specs.Names.{SqlStart, nameStart, ExactStart, Standing, unbegun, mostHeld, walkedOver, walkAnswer}
 
 -- The text of a row lies in the bytes: `row-lies` in RowText.antt

@@ -1,23 +1,17 @@
 // Texts as parts of the caller's bytes: the text of a row, and the SQL name of a declaration; and where in a declared name the SQL
 // name starts, by a walk that may be done in parts.
 use layout::LIMIT;
-use table::Refusal;
+use place::PartPlace;
 use table::Row;
 use text::State;
 ghost use mathlib.Core.List.{List, _++_};
 ghost use mathlib.Core.Path.{_≡_};
 ghost use Prim.Native.Nat.{ℕ, _+_, _≤_};
 ghost use lib.ListN.{length};
-ghost use Rattle.layout.specs.Reading.{refuse};
-ghost use Rattle.parts.specs.Parts.{rowText, partOf, numberIn, placeIn, sqlName, sqlNameIn, foundPart};
+ghost use Rattle.place.specs.Place.{foundPart, partOf, numberIn, placeIn};
+ghost use Rattle.parts.specs.Parts.{rowText, sqlName, sqlNameIn};
 ghost use Rattle.parts.specs.Names.{nameStart, ExactStart, unbegun, mostHeld, held, walkedOver, StandsAfter, walkAnswer, standing, startOf};
-ghost use Rattle.parts.specs.Private.{LiesIn, Untested, endAfter};
-
-// Where a text is in the section: from a start on; or nowhere, with a refusal.
-pub enum TextPlace {
-    Section { start: usize, len: usize },
-    Refused(Refusal),
-}
+ghost use Rattle.parts.specs.Private.{Untested, endAfter};
 
 // Where the SQL name of a declared name starts; or that the name is not UTF-8.
 pub enum NameStart {
@@ -38,46 +32,39 @@ pub struct NameWalk {
 const MOST_HELD: usize = 18446744073709551615;
 
 // Where the text of a row is.
-pub fn place_row_text(section: &[u8], row: Row) -> TextPlace
+pub fn place_row_text(section: &[u8], row: Row) -> PartPlace
     ensures { λ r. ⌜ foundPart r ≡ rowText (now (section .entry)) row ⌝ }
 {
     let found = place_row_bytes(section, row);
-    let TextPlace::Section { start, len } = found else {
+    let PartPlace::Part { start, len } = found else {
         return found;
     };
     let end = start + len;
     if text::is_utf8(&section[start..end]) {
         return found;
     }
-    no_place(15)
+    place::no_part(15)
 }
 
 // The same, with nothing known of the bytes there.
-fn place_row_bytes(section: &[u8], row: Row) -> TextPlace
+fn place_row_bytes(section: &[u8], row: Row) -> PartPlace
     ensures { λ r. ⌜ Untested (now (section .entry)) row (foundPart r) ⌝ }
 {
     if LIMIT < section.len() {
-        return no_place(1);
+        return place::no_part(1);
     }
     if row.sort != layout::SORT_TEXT {
-        return no_place(15);
+        return place::no_part(15);
     }
     let start = row.offset as usize;
     let len = row.value as usize;
     if section.len() < start {
-        return no_place(15);
+        return place::no_part(15);
     }
     if section.len() - start < len {
-        return no_place(15);
+        return place::no_part(15);
     }
-    TextPlace::Section { start, len }
-}
-
-// A refusal, with place 0.
-fn no_place(number: u32) -> TextPlace
-    ensures { λ r. ⌜ foundPart r ≡ refuse number 0 ⌝ }
-{
-    TextPlace::Refused(Refusal { number, place: 0 })
+    PartPlace::Part { start, len }
 }
 
 // The text of a row, a part of the section; or an empty part, with the refusal's number and place.
@@ -87,23 +74,23 @@ pub fn row_text<'a>(section: &'a [u8], row: Row, number: &mut u32, place: &mut u
     ensures { λ r. ⌜ now (place .exit) ≡ placeIn (rowText (now (section .entry)) row) ⌝ }
 {
     let found = place_row_text(section, row);
-    part_at(section, found, number, place)
+    place::part_at(section, found, number, place)
 }
 
 // Where the SQL name of a declaration is, from the row of the declaration's name.
-pub fn place_sql_name(section: &[u8], row: Row) -> TextPlace
+pub fn place_sql_name(section: &[u8], row: Row) -> PartPlace
     ensures { λ r. ⌜ foundPart r ≡ sqlNameIn (now (section .entry)) (rowText (now (section .entry)) row) ⌝ }
 {
     let found = place_row_bytes(section, row);
-    let TextPlace::Section { start, len } = found else {
+    let PartPlace::Part { start, len } = found else {
         return found;
     };
     let end = start + len;
     let answer = name_start(&section[start..end]);
     let NameStart::At { start: before } = answer else {
-        return no_place(15);
+        return place::no_part(15);
     };
-    TextPlace::Section {
+    PartPlace::Part {
         start: start + before,
         len: len - before,
     }
@@ -116,29 +103,7 @@ pub fn sql_name<'a>(section: &'a [u8], row: Row, number: &mut u32, place: &mut u
     ensures { λ r. ⌜ now (place .exit) ≡ placeIn (rowText (now (section .entry)) row) ⌝ }
 {
     let found = place_sql_name(section, row);
-    part_at(section, found, number, place)
-}
-
-// The text at a place, which is within the section; or an empty part, with the refusal's number and place.
-fn part_at<'a>(section: &'a [u8], found: TextPlace, number: &mut u32, place: &mut usize) -> &'a [u8]
-    requires { ⌜ LiesIn (length (now section)) found ⌝ }
-    ensures { λ r. ⌜ now r ≡ partOf (now (section .entry)) (foundPart found) ⌝ }
-    ensures { λ r. ⌜ now (number .exit) ≡ numberIn (foundPart found) ⌝ }
-    ensures { λ r. ⌜ now (place .exit) ≡ placeIn (foundPart found) ⌝ }
-{
-    *number = 0;
-    *place = 0;
-    match found {
-        TextPlace::Refused(refusal) => {
-            *number = refusal.number;
-            *place = refusal.place;
-            &section[..0]
-        }
-        TextPlace::Section { start, len } => {
-            let end = start + len;
-            &section[start..end]
-        }
-    }
+    place::part_at(section, found, number, place)
 }
 
 // Where the SQL name of a declared name starts, by one walk over the name.

@@ -1,5 +1,5 @@
--- What four numbers tell of a reading, a measuring, a writing, a path report and a start.
-use Prim.Native.Nat.{ℕ}
+-- What four numbers tell of a section that is found, a reading, a measuring, a writing, a path report and a start.
+use Prim.Native.Nat.{ℕ, _+_, _-_}
 use native.Mathlib.Omega.{arith}
 use mathlib.Core.Bool.{Bool}
 use mathlib.Core.List.{List}
@@ -7,6 +7,7 @@ use mathlib.Core.Logic.{_↔_}
 use mathlib.Core.Path.{_≡_, refl, sym, ap, subst, _∙_}
 use borrow.Author.Tests.{ne-eqb}
 use Rattle.layout.specs.Layout.{Layout}
+use Rattle.layout.specs.Reading.{Outcome, ok}
 use Rattle.layout.specs.Answers.{Answer, Result}
 use Rattle.layout.specs.Alone.{ExactAlone}
 use Rattle.layout.specs.ReadAlone.{readingAlone}
@@ -16,10 +17,12 @@ use Rattle.section.specs.Section.{reading}
 use Rattle.section.specs.Demand3.{Demand3}
 use Rattle.section.proofs.Demand3.{reading-meets, reading-told, refusal-numbered}
 use Rattle.table.specs.Answers.{answerOf, resultOf, Total, counted, uncounted}
+use Rattle.elf.specs.Elf.{sh-offset, ofHeader, sectionEnd}
+use Rattle.elf.specs.Finding.{ExactFinding, other-file, no-tables, no-match, no-bytes, past-end, found}
 use Rattle.entry_writer.specs.Refusals.{Form, WriteRefusal, not-spelled, bad-text, too-long, no-space}
 use Rattle.parts.specs.Names.{SqlStart, startsAt, notUtf8, ExactStart}
 use Rattle.paths.specs.Repeats.{ExactReport}
-use Rattle.packing.specs.Numbers.{answerNumbers, answerIn, resultIn, lengthNumbers, totalTold, lengthTold, reportNumbers, pairsIn, startNumbers, startTold}
+use Rattle.packing.specs.Numbers.{answerNumbers, answerIn, resultIn, partNumbers, partTold, lengthNumbers, totalTold, lengthTold, reportNumbers, pairsIn, startNumbers, startTold}
 use Rattle.table.specs.declared.Answer as declared
 
 -- The numbers of an answer that its number tells, tell that answer
@@ -81,3 +84,19 @@ start-in notUtf8 = refl
 -- So its contract holds of what the numbers tell
 pub start-told : (s numbers : List ℕ) (a : SqlStart) → numbers ≡ startNumbers a → ExactStart s a → ExactStart s (startTold numbers)
 start-told s numbers a e x = rw (e, start-in a) x
+
+-- The numbers of what is found for a file and a name tell it
+finding-in : {file name : List ℕ} {o : Outcome ℕ ℕ} → ExactFinding file name o → partTold (partNumbers o) ≡ o
+finding-in (other-file f) = refl
+finding-in (no-tables a f) = refl
+finding-in (no-match a b f) = refl
+finding-in (no-bytes a b f t) = refl
+finding-in (past-end a b f t h) = refl
+finding-in {file} (found a b {i} f t h) =
+    let start = ofHeader file i sh-offset in
+    let e : start + (sectionEnd file i - start) ≡ sectionEnd file i = omega arith in
+    ap (ok start) e
+
+-- So its contract holds of what the numbers tell
+pub finding-told : (file name numbers : List ℕ) (o : Outcome ℕ ℕ) → numbers ≡ partNumbers o → ExactFinding file name o → ExactFinding file name (partTold numbers)
+finding-told file name numbers o e x = rw (e, finding-in x) x

@@ -8,7 +8,8 @@ use Rattle.layout.specs.Written.{bytesOf, rowAt}
 use Rattle.table.specs.declared.Row.{Row}
 use Rattle.section.specs.Derivation.{Placed, Derivation, entitiesOf}
 use Rattle.section.specs.Demand3.{Good}
-use Rattle.parts.specs.Parts.{rowText, partOf}
+use Rattle.place.specs.Place.{partOf}
+use Rattle.parts.specs.Parts.{rowText}
 
 -- The row of each text of a section that is derived gives that text: `text-found` in Texts.antt.
 -- `ls` are the leaves before the text in its entity, so that its row is the one that `rowsFrom` has for it

@@ -12,6 +12,8 @@ ghost use Rattle.layout.specs.Alone.{ExactAlone};
 ghost use Rattle.layout.specs.ReadAlone.{readingAlone};
 ghost use Rattle.section.specs.Section.{reading};
 ghost use Rattle.section.specs.Demand3.{Demand3};
+ghost use Rattle.elf.specs.Finding.{ExactFinding};
+ghost use Rattle.elf.specs.Find.{findSection};
 ghost use Rattle.parts.specs.Parts.{rowText, sqlNameIn};
 ghost use Rattle.parts.specs.Names.{nameStart, ExactStart};
 ghost use Rattle.sql_text.specs.SqlText.{sqlText, filled, sqlAnswer};
@@ -22,7 +24,7 @@ ghost use Rattle.entry_writer.specs.Refusals.{alone, ExactLength, ExactWriting}
 ghost use Rattle.section_writer.specs.Form.{section};
 ghost use Rattle.section_writer.specs.Writing.{measuredSection, writeSection};
 ghost use Rattle.pgrxsc.specs.Version.{version};
-ghost use Rattle.packing.specs.Numbers.{answerNumbers, resultIn, partNumbers, placeNumbers, inBuffer, lengthNumbers, lengthTold, reportNumbers, pairsIn, totalTold, startNumbers, startTold};
+ghost use Rattle.packing.specs.Numbers.{answerNumbers, resultIn, partNumbers, partTold, placeNumbers, inBuffer, lengthNumbers, lengthTold, reportNumbers, pairsIn, totalTold, startNumbers, startTold};
 
 // The version of these functions, which include/pgrxsc.h has as PGRXSC_VERSION.
 const VERSION: u32 = 2;
@@ -33,6 +35,15 @@ pub extern "C" fn pgrxsc_version() -> u32
     ensures { λ r. ⌜ r ≡ version ⌝ }
 {
     VERSION
+}
+
+// Finds the section of a shared object with a name. The third number is its start in the file, the fourth its length.
+#[no_mangle]
+pub extern "C" fn pgrxsc_find_section(file: &[u8], name: &[u8], answer: &mut [u64; 4])
+    ensures { λ r. ⌜ now (answer .exit) ≡ partNumbers (findSection (now (file .entry)) (now (name .entry))) ⌝ }
+    ensures { λ r. ⌜ ExactFinding (now (file .entry)) (now (name .entry)) (partTold (now (answer .exit))) ⌝ }
+{
+    *answer = packing::part_numbers(elf::place_section(file, name));
 }
 
 // Reads a whole section. The third number is that of entities, the fourth that of rows.

@@ -26,7 +26,7 @@ use Rattle.sql_text.specs.declared.Found.{Found}
 use Rattle.sql_text.specs.declared.Found.the-variants.{Stored, Numeric as Numeric′}
 use Rattle.numeric.specs.declared.OptionU32.{OptionU32}
 use Rattle.sql_text.specs.declared.SqlPlace.{SqlPlace}
-use Rattle.parts.specs.Parts.{numberIn, placeIn}
+use Rattle.place.specs.Place.{numberIn, placeIn}
 use Rattle.numeric.specs.Numeric.{numericSize, optionOf}
 use Rattle.sql_text.specs.SqlText.{TextMapping, SqlText, in-section, in-buffer, numberIf, textOfLeaves, sqlTextOf, sqlText, SqlAnswer, sqlAnswer, sqlAnswerOf}
 use Rattle.sql_text.specs.Theorems.{As-part, Filled-part}

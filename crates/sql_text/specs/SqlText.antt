@@ -11,7 +11,7 @@ use Rattle.layout.specs.Reading.{Outcome, ok, refuse, _>>=_, need, read}
 use Rattle.layout.specs.Answers.{limit}
 use Rattle.sql_text.specs.declared.SqlPlace.{SqlPlace}
 use Rattle.sql_text.specs.declared.SqlPlace.the-variants.{Section, Buffer, Refused}
-use Rattle.parts.specs.Parts.{between}
+use Rattle.place.specs.Place.{between}
 use Rattle.numeric.specs.Numeric.{numericText, numericSize}
 
 -- A mapping that has an SQL text: As or Numeric, like the mapping in a declaration's result. Any other is refused with 10 at

@@ -11,7 +11,7 @@ ghost use lib.ListN.{length};
 ghost use Rattle.layout.specs.Written.{rowWidth, valueAt};
 ghost use Rattle.leaf.specs.State.{newCursor, seek};
 ghost use Rattle.numeric.specs.Numeric.{optionOf};
-ghost use Rattle.parts.specs.Parts.{numberIn, placeIn};
+ghost use Rattle.place.specs.Place.{numberIn, placeIn};
 ghost use Rattle.sql_text.specs.SqlText.{numberIf, sqlText, sqlPartOf, filled, sqlAnswer, sqlAnswerOf};
 ghost use Rattle.sql_text.specs.Private.{outcomeOf, noText, sizedFor, Within};
 

@@ -1,36 +1,25 @@
 -- The two cases of the code are those of the listing.
 use native.Mathlib.Omega.{arith}
-use mathlib.Core.Path.{_≡_, ap}
+use mathlib.Core.Path.{_≡_}
 use borrow.Author.Needs.{needs}
 use Rattle.table.specs.Answers.{resultOf}
-use Rattle.listing.specs.Listing.{lentTable}
-use Rattle.listing.specs.Private.{Place}
-use Rattle.listing.proofs.Lines.{word-put, long-listing, read-listing, rows-there, listed}
-use Rattle.listing.proofs.Places.{place-after}
 use Rattle.section.specs.Section.{reading}
+use Rattle.listing.specs.Listing.{lentTable}
+use Rattle.listing.proofs.Lines.{long-listing, read-listing, rows-there, listed}
 use Rattle.listing.proofs.listing.Statement.{statement}
 use Rattle.listing.proofs.listing.Tie as tie
 
-slice-aggregate-put : tie.Need-slice-aggregate-put
-slice-aggregate-put c = search needs
-
-put-requires : tie.Need-put-requires
-put-requires c κs = search needs
-
-put-byte-requires : tie.Need-put-byte-requires
-put-byte-requires c κs = omega (arith, place-after _ _ _ (c .before .before .before .put .ensures))
+list-long-requires : tie.Need-list-long-requires
+list-long-requires c κs = search needs
 
 same-length : tie.Need-same-length
 same-length c = search needs
 
 returns : tie.Need-returns
 returns c =
-    let if1 = c .before .before .before .before .before .before .before .before .before .if1 in
-    let put-ensures = c .before .before .before .before .before .before .put .ensures in
-    let a = c .before .before .before .before .before .before .before .before .before .before .before .before .args in
-    let s = a .input .now in
-    let e = listed s _ (a .out .now) _ _ (long-listing s (omega (arith, if1 .taken))) (word-put _ _ _ _ put-ensures (c .before .before .put-byte .ensures)) in
-    (e .0, (e .1, omega (arith, place-after _ _ _ put-ensures, ap (λ (p : Place). p .at) (c .before .before .put-byte .ensures))))
+    let if1 = c .before .before .before .before .if1 in
+    let a = c .before .before .before .before .before .before .before .args in
+    rw (long-listing (a .input .now) (omega (arith, if1 .taken))) (c .before .before .list-long .ensures)
 
 lent-table-requires : tie.Need-lent-table-requires
 lent-table-requires c κs = search needs
@@ -68,9 +57,7 @@ pub listing-spec : {M : Type 1} → statement M
 listing-spec =
     tie.close
     (tie.spec
-    slice-aggregate-put
-    put-requires
-    put-byte-requires
+    list-long-requires
     same-length
     returns
     lent-table-requires

@@ -5,9 +5,12 @@ use borrow.Author.Needs.{needs}
 use Rattle.layout.specs.Answers.{wholeRows}
 use Rattle.table.specs.Answers.{answerOf}
 use Rattle.table.specs.declared.Answer.{Answer}
+use mathlib.Core.List.{List}
+use Prim.Native.Nat.{ℕ}
 use Rattle.listing.specs.Listing.{lines}
 use Rattle.listing.specs.Private.{place, putAll}
-use Rattle.listing.proofs.Lines.{accept-put, refuse-put, counted}
+use Rattle.listing.proofs.Lines.{accept-put, refuse-lines, counted}
+use Rattle.listing.proofs.Places.{start-put}
 use Rattle.listing.proofs.put_answer.Statement.{statement}
 use Rattle.listing.proofs.put_answer.Tie as tie
 
@@ -30,14 +33,8 @@ put-rows-requires c κs =
 enum-known-answer-2 : tie.Need-enum-known-answer-2
 enum-known-answer-2 c = search needs
 
-slice-aggregate-put-counts-2 : tie.Need-slice-aggregate-put-counts-2
-slice-aggregate-put-counts-2 c = search needs
-
-wide-requires : tie.Need-wide-requires
-wide-requires c κs = search needs
-
-put-counts-requires-2 : tie.Need-put-counts-requires-2
-put-counts-requires-2 c κs = search needs
+list-refusal-requires : tie.Need-list-refusal-requires
+list-refusal-requires c κs = search needs
 
 same-length : tie.Need-same-length
 same-length c = search needs
@@ -58,11 +55,13 @@ same-length-2 c = search needs
 
 returns-2 : tie.Need-returns-2
 returns-2 c =
-    let answer2-given = c .before .before .before .before .before .before .before .answer2 .given in
-    let a = c .before .before .before .before .before .before .before .before .before .before .before .args in (
-      refuse-put _ _ _ (a .table .now) _ _ (c .before .before .before .wide .ensures .0) (c .before .before .put-counts2 .ensures .0)
-          ∙ ap (λ (x : Answer). putAll (lines (answerOf x) (a .table .now)) (place (a .out .now) 0)) (sym (answer2-given .1)),
-      omega (arith, c .before .before .put-counts2 .ensures .1),
+    let e = c .before .before .before .before .before .answer2 .given .1 in
+    let a = c .before .before .before .before .before .before .before .before .before .args in
+    let l = c .before .before .list-refusal .ensures in (
+      start-put _ (a .out .now) _ _ (l .0) (l .1 .0)
+          ∙ ap (λ (t : List ℕ). putAll t (place (a .out .now) 0)) (sym (refuse-lines _ _ (a .table .now)))
+          ∙ ap (λ (x : Answer). putAll (lines (answerOf x) (a .table .now)) (place (a .out .now) 0)) (sym e),
+      l .1 .1,
     )
 
 pub put-answer-spec : {M : Type 1} → statement M
@@ -74,9 +73,7 @@ put-answer-spec =
     put-counts-requires
     put-rows-requires
     enum-known-answer-2
-    slice-aggregate-put-counts-2
-    wide-requires
-    put-counts-requires-2
+    list-refusal-requires
     same-length
     returns
     same-length-2

@@ -3,7 +3,7 @@ use mathlib.Core.Bool.{false≢true}
 use mathlib.Core.Path.{sym, ap, _∙_}
 use native.Mathlib.Omega.{arith}
 use denote.Ref.{now}
-use Rattle.parts.specs.Parts.{foundPart}
+use Rattle.place.specs.Place.{foundPart}
 use Rattle.parts.proofs.RowText.{is-text, not-text, refused}
 use borrow.Author.Needs.{needs}
 use Rattle.parts.proofs.place_row_text.Statement.{statement}
@@ -46,14 +46,14 @@ returns-2 c =
     let u = rw (c .before .before .before .before .found .given .1) at (c .before .before .before .before .before .before .place-row-bytes .ensures) in
     sym (is-text (now (args .section)) (args .row) _ _ u (c .before .is-utf8 .ensures .1 .0 (c .if1 .taken)))
 
-no-place-requires : tie.Need-no-place-requires
-no-place-requires c κs = search needs
+no-part-requires : tie.Need-no-part-requires
+no-part-requires c κs = search needs
 
 returns-3 : tie.Need-returns-3
 returns-3 c =
     let args = c .before .before .before .before .before .before .before .before .before .args in
     let u = rw (c .before .before .before .before .before .found .given .1) at (c .before .before .before .before .before .before .before .place-row-bytes .ensures) in
-    c .no-place .ensures ∙ sym (not-text (now (args .section)) (args .row) _ _ u (λ t. false≢true (sym (c .before .if1 .left) ∙ c .before .before .is-utf8 .ensures .1 .1 t)))
+    c .no-part .ensures ∙ sym (not-text (now (args .section)) (args .row) _ _ u (λ t. false≢true (sym (c .before .if1 .left) ∙ c .before .before .is-utf8 .ensures .1 .1 t)))
 
 pub place-row-text-spec : {M : Type 1} → statement M
 place-row-text-spec =
@@ -69,5 +69,5 @@ place-row-text-spec =
     part-is-utf8-end
     is-utf8-requires
     returns-2
-    no-place-requires
+    no-part-requires
     returns-3)

@@ -2,9 +2,11 @@
 use mathlib.Core.Path.{sym, ap, _∙_}
 use native.Mathlib.Omega.{arith}
 use denote.Ref.{now}
-use Rattle.parts.specs.Parts.{rowText, sqlNameIn, foundPart}
+use Rattle.place.specs.Place.{foundPart}
+use Rattle.parts.specs.Parts.{rowText, sqlNameIn}
 use Rattle.parts.proofs.RowText.{is-text, not-text, refused}
-use Rattle.parts.proofs.SqlName.{length-between, name-placed}
+use Rattle.place.proofs.Between.{length-between}
+use Rattle.parts.proofs.SqlName.{name-placed}
 use borrow.Author.Needs.{needs}
 use Rattle.parts.proofs.place_sql_name.Statement.{statement}
 use Rattle.parts.proofs.place_sql_name.Tie as tie
@@ -47,8 +49,8 @@ enum-known-answer c = search needs
 enum-told-2 : tie.Need-enum-told-2
 enum-told-2 c = search needs
 
-no-place-requires : tie.Need-no-place-requires
-no-place-requires c κs = search needs
+no-part-requires : tie.Need-no-part-requires
+no-part-requires c κs = search needs
 
 returns-2 : tie.Need-returns-2
 returns-2 c =
@@ -56,7 +58,7 @@ returns-2 c =
     let s = now (args .section) in
     let u = rw (c .before .before .before .before .before .before .found .given .1) at (c .before .before .before .before .before .before .before .before .place-row-bytes .ensures) in
     let n = rw (c .before .enum-told2 .given .1) at (c .before .before .before .name-start .ensures .1) in
-    c .no-place .ensures ∙ sym (ap (sqlNameIn s) (not-text s (args .row) _ _ u n))
+    c .no-part .ensures ∙ sym (ap (sqlNameIn s) (not-text s (args .row) _ _ u n))
 
 add-t10 : tie.Need-add-t10
 add-t10 c =
@@ -94,7 +96,7 @@ place-sql-name-spec =
     name-start-requires
     enum-known-answer
     enum-told-2
-    no-place-requires
+    no-part-requires
     returns-2
     add-t10
     sub-t13

@@ -1,6 +1,5 @@
 -- The part where the text is.
-use Rattle.parts.proofs.RowText.{row-lies-in}
-use Rattle.parts.specs.Parts.{partOf, numberIn, placeIn}
+use Rattle.place.specs.Place.{partOf, numberIn, placeIn}
 use denote.Ref.{now}
 use mathlib.Core.Path.{ap, _∙_}
 use borrow.Author.Needs.{needs}
@@ -11,7 +10,7 @@ place-row-text-requires : tie.Need-place-row-text-requires
 place-row-text-requires c κs = search needs
 
 part-at-requires : tie.Need-part-at-requires
-part-at-requires c κs = let args = c .before .before .before .before .args in row-lies-in (now (args .section)) (args .row) (c .before .before .place-row-text .result) (c .before .before .place-row-text .ensures)
+part-at-requires c κs = search needs
 
 returns : tie.Need-returns
 returns c =

@@ -1,6 +1,7 @@
 -- The part where the name is.
-use Rattle.parts.proofs.SqlName.{name-part, name-refusal, name-lies-in}
-use Rattle.parts.specs.Parts.{rowText, partOf, numberIn, placeIn}
+use Rattle.parts.proofs.SqlName.{name-part, name-refusal}
+use Rattle.place.specs.Place.{partOf, numberIn, placeIn}
+use Rattle.parts.specs.Parts.{rowText}
 use denote.Ref.{now}
 use mathlib.Core.Path.{ap, _∙_}
 use borrow.Author.Needs.{needs}
@@ -11,7 +12,7 @@ place-sql-name-requires : tie.Need-place-sql-name-requires
 place-sql-name-requires c κs = search needs
 
 part-at-requires : tie.Need-part-at-requires
-part-at-requires c κs = let args = c .before .before .before .before .args in name-lies-in (now (args .section)) (args .row) (c .before .before .place-sql-name .result) (c .before .before .place-sql-name .ensures)
+part-at-requires c κs = search needs
 
 returns : tie.Need-returns
 returns c =

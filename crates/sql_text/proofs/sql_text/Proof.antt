@@ -1,7 +1,7 @@
 -- Refused, As, or Numeric.
 use Rattle.numeric.proofs.Numeric.{text-length}
 use Rattle.sql_text.specs.SqlText.{sqlPartOf}
-use Rattle.parts.specs.Parts.{numberIn, placeIn}
+use Rattle.place.specs.Place.{numberIn, placeIn}
 use denote.Ref.{now}
 use lib.ListN.{length-take}
 use mathlib.Core.Path.{ap}

@@ -1,0 +1,5 @@
+pub mod Elf
+pub mod Finding
+pub mod Find
+pub mod Reads
+pub mod Theorems

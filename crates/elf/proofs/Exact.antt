@@ -80,9 +80,9 @@ module _ (table : List ℕ) (offset : ℕ) (name : List ℕ) where
       let n = suc (length name) in
       let m : length (name ++ (0 ∷ [])) ≡ n = length-append name (0 ∷ []) ∙ omega arith in
       let k : take n (drop offset table) ≡ name ++ (0 ∷ []) =
-          ap (take n) (h .there ∙ sym (append-assoc name (0 ∷ []) (h .rest)))
-          ∙ take-append-le n (name ++ (0 ∷ [])) (h .rest) (omega arith)
-          ∙ take-all n (name ++ (0 ∷ [])) (omega arith)
+      ap (take n) (h .there ∙ sym (append-assoc name (0 ∷ []) (h .rest)))
+      ∙ take-append-le n (name ++ (0 ∷ [])) (h .rest) (omega arith)
+      ∙ take-all n (name ++ (0 ∷ [])) (omega arith)
       in
       rw k (same-refl (name ++ (0 ∷ [])))
 

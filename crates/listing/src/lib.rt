@@ -54,12 +54,7 @@ pub fn list_refusal(refusal: Refusal, out: &mut [u8]) -> usize
     ensures { λ r. ⌜ now (out .exit) ≡ atStart (refusalLine (refusal .number) (refusal .place)) (now (out .entry)) ⌝ }
     ensures { λ r. ⌜ r ≤ mostListed ⌝ }
 {
-    put_counts(
-        out,
-        b"refuse",
-        wide(refusal.number),
-        refusal.place as u64,
-    )
+    put_counts(out, b"refuse", wide(refusal.number), refusal.place as u64)
 }
 
 // The table before the reading.

@@ -19,10 +19,10 @@ pub fn decode_object(file: &[u8], name: &[u8], table: &mut [u32]) -> Answer
     let found = elf::place_section(file, name);
     match found {
         PartPlace::Refused(refusal) => table::refuse(table, refusal.number, refusal.place),
-        PartPlace::Part { start, len } => section::decode_entities(
-            place::part(file, start, len),
-            table,
-        ),
+        PartPlace::Part { start, len } => {
+            let part = place::part(file, start, len);
+            section::decode_entities(part, table)
+        }
     }
 }
 
@@ -38,9 +38,6 @@ pub fn object_listing(file: &[u8], name: &[u8], out: &mut [u8]) -> usize
     let found = elf::place_section(file, name);
     match found {
         PartPlace::Refused(refusal) => listing::list_refusal(refusal, out),
-        PartPlace::Part { start, len } => listing::listing(
-            place::part(file, start, len),
-            out,
-        ),
+        PartPlace::Part { start, len } => listing::listing(place::part(file, start, len), out),
     }
 }

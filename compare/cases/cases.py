@@ -2,11 +2,11 @@
 """Writes the cases of the crate cases: its stdin, and its stdout with the counts and the tally.
 
 Run it after a change. It takes no arguments, and prints how many cases of each letter there are. The sources are the cases below,
-with answers by the rules of docs/FORMAT.md, and six files beside this script, whose lines README.md explains:
+with answers by the rules of docs/FORMAT.md, and seven files beside this script, whose lines README.md explains:
 
 - model.txt has answers of a model of the format that was written apart from this project and compared with the published Rust;
-- entities.txt has answers of the same model to the writing of payloads and sections, paths.txt its path reports, and names.txt where
-  SQL names start;
+- entities.txt has answers of the same model to the writing of payloads and sections, paths.txt its path reports, names.txt where SQL
+  names start, and shared_objects.txt where the sections of shared objects are;
 - sample.txt has the published Rust's own answers, as `compare/run --sample 2000 --seed 3629` prints them;
 - rfc3629.txt has byte strings and whether they are UTF-8, as rfc3629.py writes them.
 
@@ -14,6 +14,7 @@ Each case is taken once, and from some of them others are made:
 
 - Each reading that is accepted is followed by the same with a table of just as many rows, and with one of a row less, which 13
   refuses.
+- Some sections are also read from a shared object that has them (f), with the same answers.
 - For each section there are cases of the path report (R), which differ in how many numbers of work are lent: as many as there are
   entities, as many as there are paths, one less, and none. Their pairs are counted here, by kind and path, on the rows of the
   section's answer. A section that is refused has one with none. If a section's length is a multiple of ten, there is one more:
@@ -29,15 +30,17 @@ from collections import Counter
 from pathlib import Path
 
 HERE = Path(__file__).resolve().parent
-ANSWERED = ("model.txt", "entities.txt", "paths.txt", "names.txt", "sample.txt")
+ANSWERED = ("model.txt", "entities.txt", "paths.txt", "names.txt", "shared_objects.txt", "sample.txt")
 CRATE = HERE.parents[1] / "crates" / "cases"
+LINKED = CRATE.parent / "list_object"  # whose stdin is a shared object that object.py made, and whose stdout is its listing
 
-READINGS = ("S", "P", "M", "G")  # a section; one payload, one metadata record, one mapping, each alone
+READINGS = ("S", "P", "M", "G", "f")  # a section; one payload, one metadata record, one mapping, each alone; a shared object's section
 PARTS = ("T", "N", "Q")  # a row's text, the SQL name from a row, the SQL text of a mapping
 WRITINGS = ("W", "w", "E", "e")  # a metadata record, one mapping, one payload, a section
 MEASURINGS = {"W": "V", "w": "v", "E": "Y", "e": "y"}  # the same, measured
-# R is the path report; O is a section as objects; U is the text check; X is the walk over a name
-LETTERS = READINGS + PARTS + ("R",) + WRITINGS + tuple(MEASURINGS.values()) + ("O", "U", "X")
+# F is where a shared object's section is; R is the path report; O is a section as objects; U is the text check; X is the walk over a
+# name
+LETTERS = READINGS + ("F",) + PARTS + ("R",) + WRITINGS + tuple(MEASURINGS.values()) + ("O", "U", "X")
 LENGTH_DIGITS = 5
 MANY = 5461  # rows
 ROW_WIDTH = 3
@@ -96,6 +99,24 @@ ADDED = [
     ("M", "0001050103ffffffff" + "05" * 11, "refuse 5 20"),
     ("M", "0001050103ffffffff" + "05" * 10 + "06", "refuse 9 19"),
 ]
+
+SCHEMA_SECTION = ".pgrxsc"
+# The sections of the shared object in LINKED: name, offset and size, as readelf -S prints them
+LINKED_SECTIONS = [
+    (".hash", 0x120, 0x14),
+    (".gnu.hash", 0x138, 0x24),
+    (".dynsym", 0x160, 0x30),
+    (".dynstr", 0x190, 0x5),
+    (".text", 0x195, 0x6),
+    (".pgrxsc", 0x19B, 0x94),
+    (".eh_frame", 0x230, 0),
+    (".dynamic", 0x230, 0xC0),
+    (".symtab", 0x2F0, 0x48),
+    (".strtab", 0x338, 0xE),
+    (".shstrtab", 0x346, 0x56),
+]
+# Names that none of them has
+OTHER_NAMES = ["", ".", ".pgrxs", "pgrxsc", ".pgrxsc2", ".pgrxsc\0", "\0", "strtab", ".bss", ".pgrx_schema"]
 
 # Rows: letter, bytes, sort, offset, value, answer
 ADDED_ROWS = [
@@ -488,10 +509,42 @@ def section(items, padding):
     return octets + bytes(padding), " ".join(map(str, answer))
 
 
+def shared_object(octets):
+    """An ELF file, 64-bit and little-endian, whose section .pgrxsc has these bytes."""
+    names = b"\0.shstrtab\0" + SCHEMA_SECTION.encode() + b"\0"
+    start = 64 + len(names)
+    end = start + len(octets)
+    # Of the file header: class 64, little-endian, a shared object for x86-64, and where its section headers are
+    file_header = b"\x7fELF" + bytes([2, 1, 1]) + bytes(9) + bytes([3, 0, 62, 0, 1, 0, 0, 0]) + bytes(16)
+    file_header += end.to_bytes(8, "little") + bytes(4) + bytes([64, 0, 0, 0, 0, 0, 64, 0, 3, 0, 1, 0])
+
+    def header(name, kind, offset, size):
+        fields = four(name) + four(kind) + bytes(16) + offset.to_bytes(8, "little") + size.to_bytes(8, "little")
+        return fields + bytes(8) + (1).to_bytes(8, "little") + bytes(8)
+
+    headers = bytes(64) + header(1, 3, 64, len(names)) + header(11, 1, start, len(octets))
+    return file_header + names + octets + headers
+
+
+def linked():
+    """The cases of a shared object that the system's linker made."""
+    field = (LINKED / "stdin").read_bytes().hex()
+    for name, offset, size in LINKED_SECTIONS:
+        yield f"F {field} {hexadecimal(name.encode())} part {offset} {size}"
+    for name in OTHER_NAMES:
+        yield f"F {field} {hexadecimal(name.encode())} refuse 20 0"
+    yield f"f {MANY} {field} {' '.join((LINKED / 'stdout').read_text().split())}"
+
+
 def answered():
     """The cases as lines of the files, and those added."""
     for name in ANSWERED:
         yield from (HERE / name).read_text().splitlines()
+    yield from linked()
+    # Not ELF; a section, but no shared object; and one of another name
+    yield f"f {MANY} - refuse 18 0"
+    yield f"f {MANY} {entry(SCHEMA_BYTES)} refuse 18 0"
+    yield f"f {MANY} {shared_object(b'').replace(b'.pgrxsc', b'.pgrxsd').hex()} refuse 20 0"
     for letter, field, answer in ADDED:
         yield f"{letter} {MANY} {field} {answer}"
     for padding, items in enumerate([*ADDED_SECTIONS, *sorted_sections()]):
@@ -528,6 +581,24 @@ def reading(line):
         yield f"{letter} {size} {field} 0 0 {' '.join(numbers)}"
     if needed > 0:
         yield f"{letter} {needed - 1} {field} 13 0"
+
+
+def object_reading(line):
+    """The reading of a section from a shared object, for one section in ten, but no long one."""
+    letter, rows, field, answer = line.split(" ", 3)
+    octets = octets_of(field)
+    if len(octets) % 10 == 5 and len(octets) < 10000:
+        yield f"f {rows} {shared_object(octets).hex()} {answer}"
+
+
+def finding(line):
+    letter, field, name, verdict, *numbers = line.split(" ")
+    first, second = map(int, numbers)
+    octets = octets_of(name)
+    answer = f"{first} {second} {first} {second} -"
+    if verdict == "part":
+        answer = f"0 0 {first} {second} 0 0 {part(field, first, second)}"
+    return f"{letter} {','.join(map(str, [len(octets), *octets]))} {field} {answer}"
 
 
 def row_part(line):
@@ -631,6 +702,10 @@ def cases():
             yield from reading(line)
         if letter == "S":
             yield from path_report(line)
+            for other in object_reading(line):
+                yield from reading(other)
+        if letter == "F":
+            yield finding(line)
         if letter == "R":
             yield from given_report(line)
         if letter in ("T", "N"):

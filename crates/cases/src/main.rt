@@ -5,6 +5,9 @@
 //
 // - S is the reading of a section; P, M and G are those of one payload, one metadata record and one mapping alone. The number is
 //   that of the table's rows. The answer is 0, 0, the numbers of entities and rows, and the rows; or a refusal's number and place.
+// - f is the reading of the section .pgrxsc of a shared object, as S.
+// - F is the section of a shared object with a name. The numbers are how many bytes the name has, and these. The answer is 0, 0, the
+//   section's start and length, or a refusal's number and place; then number and place, and the part, of the call that returns it.
 // - T is the text of a row, and N the SQL name from it. The numbers are the row. The answer is number, place and the part.
 // - Q is the SQL text of a mapping. The numbers are its offset and the buffer's size. The answer is number, place and the part,
 //   then the buffer, and number and place of the call that filled it.
@@ -32,6 +35,7 @@ use libc::STDOUT_FILENO;
 use parts::NameStart;
 use parts::NameWalk;
 use paths::PathReport;
+use place::PartPlace;
 use table::Answer;
 use table::Refusal;
 use table::Row;
@@ -424,7 +428,7 @@ fn answer(
 }
 
 fn is_reading(letter: u8) -> bool {
-    letter == b'S' || letter == b'P' || letter == b'M' || letter == b'G'
+    letter == b'S' || letter == b'P' || letter == b'M' || letter == b'G' || letter == b'f'
 }
 
 fn answer_other(
@@ -434,6 +438,7 @@ fn answer_other(
     out: &mut [u8; OUT_SIZE],
 ) -> usize {
     match letter {
+        b'F' => find_section(numbers, s, out),
         b'T' => row_text(numbers, s, out),
         b'N' => sql_name(numbers, s, out),
         b'Q' => sql_text(numbers, s, out),
@@ -490,6 +495,7 @@ fn decode_alone(letter: u8, s: &[u8], t: &mut [u32]) -> Answer {
     match letter {
         b'P' => entity::decode_entity(s, t),
         b'M' => metadata::decode_function_metadata_type(s, t),
+        b'f' => object::decode_object(s, b".pgrxsc", t),
         _ => metadata::decode_sql_mapping(s, t),
     }
 }
@@ -634,6 +640,43 @@ fn spell_report(report: PathReport, out: &mut [u8; OUT_SIZE]) -> usize {
     match report {
         PathReport::Counted { pairs } => spell_accepted(pairs, out),
         PathReport::Refused(refusal) => put_refusal(out, 0, refusal),
+    }
+}
+
+// The section of a shared object: where it is, and the part.
+fn find_section(numbers: &[u32; CASE_NUMBERS], s: &[u8], out: &mut [u8; OUT_SIZE]) -> usize {
+    let size = wide_number(numbers[0]) as usize;
+    if MOST_BUFFER < size {
+        return bad_case(out);
+    }
+    let name = bytes_of(numbers);
+    find_section_with(s, &name[..size], out)
+}
+
+// The numbers after the first, as bytes.
+fn bytes_of(numbers: &[u32; CASE_NUMBERS]) -> [u8; MOST_BUFFER] {
+    let mut bytes = [0u8; MOST_BUFFER];
+    let mut k = 0;
+    while k < MOST_BUFFER {
+        bytes[k] = (numbers[k + 1] % 256) as u8;
+        k += 1;
+    }
+    bytes
+}
+
+fn find_section_with(s: &[u8], name: &[u8], out: &mut [u8; OUT_SIZE]) -> usize {
+    let end = spell_place(elf::place_section(s, name), out);
+    let mut number = FILL;
+    let mut place = FILL_PLACE;
+    let part = elf::find_section(s, name, &mut number, &mut place);
+    let end = put_refusal(out, end, Refusal { number, place });
+    put_bytes(out, end, part)
+}
+
+fn spell_place(found: PartPlace, out: &mut [u8; OUT_SIZE]) -> usize {
+    match found {
+        PartPlace::Part { start, len } => spell_counts(start, len, out),
+        PartPlace::Refused(refusal) => put_refusal(out, 0, refusal),
     }
 }
 

@@ -17,7 +17,7 @@ use Rattle.place.proofs.Between.{length-between}
 use Rattle.elf.specs.Elf.{little, HeaderField, e-shoff, e-shentsize, e-shnum, sh-name, sh-type, sh-offset, sh-size, ofFile, headerAt, headersEnd, ofHeader, sectionEnd, sectionIn, nameTable, SectionTables, Matches, FirstMatch}
 use Rattle.elf.specs.Finding.{ExactFinding}
 use Rattle.elf.specs.Find.{isElf64, endsInFile, hasTables, isName, isNamedAt, headerSection, firstNamed, findSection}
-use Rattle.elf.specs.Reads.{Among, InField, LookedAt, Leads, ident, shoff, shentsize, shnum, shstrndx, names-offset, names-size, name-offset, name-bytes, type, offset, size, bytes, EndTested, file-header, headers, names, section, Alike}
+use Rattle.elf.specs.Reads.{Among, InField, LookedAt, Leads, in-ident, in-shoff, in-shentsize, in-shnum, in-shstrndx, in-names-offset, in-names-size, in-name-offset, in-name, in-type, in-offset, in-size, in-section, EndTested, file-header-end, headers-end, names-end, section-end, Alike}
 use Rattle.elf.specs.Theorems.{Same-finding}
 use Rattle.elf.proofs.Steps.{tables-sound, hasName, find-18, find-19, find-20, find-search}
 use Rattle.elf.proofs.Exact.{by-cases, test-match, none-before, find-sound, found-lies}
@@ -81,16 +81,16 @@ leb-same e m n f =
 module _ (file other given : List ℕ) (alike : Alike file other given) where
   -- The fields of the file header
   e-off : ofFile file e-shoff ≡ ofFile other e-shoff
-  e-off = little-same 8 file other 40 (λ k h. alike .same-bytes k (shoff h))
+  e-off = little-same 8 file other 40 (λ k h. alike .same-bytes k (in-shoff h))
 
   e-size : ofFile file e-shentsize ≡ ofFile other e-shentsize
-  e-size = little-same 2 file other 58 (λ k h. alike .same-bytes k (shentsize h))
+  e-size = little-same 2 file other 58 (λ k h. alike .same-bytes k (in-shentsize h))
 
   e-num : ofFile file e-shnum ≡ ofFile other e-shnum
-  e-num = little-same 2 file other 60 (λ k h. alike .same-bytes k (shnum h))
+  e-num = little-same 2 file other 60 (λ k h. alike .same-bytes k (in-shnum h))
 
   e-names : nameTable file ≡ nameTable other
-  e-names = little-same 2 file other 62 (λ k h. alike .same-bytes k (shstrndx h))
+  e-names = little-same 2 file other 62 (λ k h. alike .same-bytes k (in-shstrndx h))
 
   end-same : (e : ℕ) → EndTested file given e → leb e (length file) ≡ leb e (length other)
   end-same e t = leb-same e (length file) (length other) (alike .same-ends e t)
@@ -102,24 +102,24 @@ module _ (file other given : List ℕ) (alike : Alike file other given) where
   elf-same : isElf64 file ≡ isElf64 other
   unfolding isElf64
   elf-same =
-      let l = end-same 64 file-header in
-      let c : getD file 4 0 ≡ getD other 4 0 = alike .same-bytes 4 (ident (omega arith)) in
-      let d : getD file 5 0 ≡ getD other 5 0 = alike .same-bytes 5 (ident (omega arith)) in
+      let l = end-same 64 file-header-end in
+      let c : getD file 4 0 ≡ getD other 4 0 = alike .same-bytes 4 (in-ident (omega arith)) in
+      let d : getD file 5 0 ≡ getD other 5 0 = alike .same-bytes 5 (in-ident (omega arith)) in
       let s = e-size in
       by-cases (leb 64 (length other))
       (λ t.
       let h : 64 ≤ length file = leb-true 64 (length file) (l ∙ t) in
       let k : 64 ≤ length other = leb-true 64 (length other) t in
-      let m : take 4 file ≡ take 4 other = part-same file other 0 4 (omega arith) (omega arith) (λ n g. alike .same-bytes n (ident (omega arith))) in
+      let m : take 4 file ≡ take 4 other = part-same file other 0 4 (omega arith) (omega arith) (λ n g. alike .same-bytes n (in-ident (omega arith))) in
       rw (l, m, c, d, s))
       (λ t. rw (l, t))
 
   -- The section name table
   o-same : ofHeader file (nameTable file) sh-offset ≡ ofHeader other (nameTable other) sh-offset
-  o-same = field-same sh-offset (nameTable file) (λ k h. alike .same-bytes k (names-offset h)) ∙ ap (λ (i : ℕ). ofHeader other i sh-offset) e-names
+  o-same = field-same sh-offset (nameTable file) (λ k h. alike .same-bytes k (in-names-offset h)) ∙ ap (λ (i : ℕ). ofHeader other i sh-offset) e-names
 
   s-same : ofHeader file (nameTable file) sh-size ≡ ofHeader other (nameTable other) sh-size
-  s-same = field-same sh-size (nameTable file) (λ k h. alike .same-bytes k (names-size h)) ∙ ap (λ (i : ℕ). ofHeader other i sh-size) e-names
+  s-same = field-same sh-size (nameTable file) (λ k h. alike .same-bytes k (in-names-size h)) ∙ ap (λ (i : ℕ). ofHeader other i sh-size) e-names
 
   ends-same : (i j : ℕ) → EndTested file given (sectionEnd file i) → ofHeader file i sh-offset ≡ ofHeader other j sh-offset → ofHeader file i sh-size ≡ ofHeader other j sh-size
       → endsInFile file (headerAt file i) ≡ endsInFile other (headerAt other j)
@@ -129,8 +129,8 @@ module _ (file other given : List ℕ) (alike : Alike file other given) where
   tables-same : hasTables file ≡ hasTables other
   unfolding hasTables
   tables-same =
-      let h = end-same (headersEnd file) headers in
-      let a = ends-same (nameTable file) (nameTable other) names o-same s-same in
+      let h = end-same (headersEnd file) headers-end in
+      let a = ends-same (nameTable file) (nameTable other) names-end o-same s-same in
       let n = e-num in
       let o = e-off in
       let m = e-names in
@@ -139,7 +139,7 @@ module _ (file other given : List ℕ) (alike : Alike file other given) where
   -- A header
   module _ (tables : SectionTables file) (others : SectionTables other) (i : ℕ) (looked : LookedAt file given i) where
     offset-same : ofHeader file i sh-name ≡ ofHeader other i sh-name
-    offset-same = field-same sh-name i (λ k h. alike .same-bytes k (name-offset looked h))
+    offset-same = field-same sh-name i (λ k h. alike .same-bytes k (in-name-offset looked h))
 
     name-same : hasName file given i ≡ hasName other given i
     name-same =
@@ -150,17 +150,17 @@ module _ (file other given : List ℕ) (alike : Alike file other given) where
         let b = s-same in
         let t : between other start (start + size) ≡ sectionIn other (nameTable other) = rw (a, b) in
         named-seen (sectionIn file (nameTable file)) (between other start (start + size)) off given
-        (seen-same start size off (suc (length given)) file other (tables .names) (omega (arith, others .names, a, b)) (λ k g l. alike .same-bytes k (name-bytes looked (g .0, omega arith) l)))
+        (seen-same start size off (suc (length given)) file other (tables .names) (omega (arith, others .names, a, b)) (λ k g l. alike .same-bytes k (in-name looked (g .0, omega arith) l)))
         ∙ ap (λ (u : List ℕ). isNamedAt u off given) t
         ∙ ap (λ (n : ℕ). isNamedAt (sectionIn other (nameTable other)) n given) offset-same
 
   section-same : (i : ℕ) → FirstMatch file given i → headerSection file (headerAt file i) ≡ headerSection other (headerAt other i)
   unfolding headerSection
   section-same i u =
-      let t = field-same sh-type i (λ k h. alike .same-bytes k (type u h)) in
-      let o = field-same sh-offset i (λ k h. alike .same-bytes k (offset u h)) in
-      let s = field-same sh-size i (λ k h. alike .same-bytes k (size u h)) in
-      let n = ends-same i i (section u) o s in
+      let t = field-same sh-type i (λ k h. alike .same-bytes k (in-type u h)) in
+      let o = field-same sh-offset i (λ k h. alike .same-bytes k (in-offset u h)) in
+      let s = field-same sh-size i (λ k h. alike .same-bytes k (in-size u h)) in
+      let n = ends-same i i (section-end u) o s in
       rw (t, n, o, s)
 
   module _ (tables : SectionTables file) (others : SectionTables other) where
@@ -194,7 +194,7 @@ module _ (file other given : List ℕ) (alike : Alike file other given) where
   part-of-same (ok start end) e d =
       let (h, k) = found-lies file given start end e in
       let (m, n) = found-lies other given start end d in
-      sym (part-same file other start (end - start) (omega arith) (omega arith) (λ at g. alike .same-bytes at (bytes e (g .0) (omega arith))))
+      sym (part-same file other start (end - start) (omega arith) (omega arith) (λ at g. alike .same-bytes at (in-section e (g .0) (omega arith))))
   part-of-same (refuse n p) e d = refl
 
 pub same-finding : Same-finding

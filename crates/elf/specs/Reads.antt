@@ -25,34 +25,34 @@ pub record LookedAt (file name : List ℕ) (i : ℕ) : Type 0 where
 -- The byte at a place leads to the section with a name, or is one of the section's
 pub data Leads (file name : List ℕ) (at : ℕ) : Type 0 where
   -- the first four bytes, the class and the byte order
-  ident : at < 6 → Leads file name at
+  in-ident : at < 6 → Leads file name at
   -- the four fields of the file header
-  shoff : InField 0 e-shoff at → Leads file name at
-  shentsize : InField 0 e-shentsize at → Leads file name at
-  shnum : InField 0 e-shnum at → Leads file name at
-  shstrndx : InField 0 e-shstrndx at → Leads file name at
+  in-shoff : InField 0 e-shoff at → Leads file name at
+  in-shentsize : InField 0 e-shentsize at → Leads file name at
+  in-shnum : InField 0 e-shnum at → Leads file name at
+  in-shstrndx : InField 0 e-shstrndx at → Leads file name at
   -- where the section name table begins, and its size
-  names-offset : InField (headerAt file (nameTable file)) sh-offset at → Leads file name at
-  names-size : InField (headerAt file (nameTable file)) sh-size at → Leads file name at
+  in-names-offset : InField (headerAt file (nameTable file)) sh-offset at → Leads file name at
+  in-names-size : InField (headerAt file (nameTable file)) sh-size at → Leads file name at
   -- of each header from 1 on, up to the first that has the name: where its name begins
-  name-offset : {i : ℕ} → LookedAt file name i → InField (headerAt file i) sh-name at → Leads file name at
+  in-name-offset : {i : ℕ} → LookedAt file name i → InField (headerAt file i) sh-name at → Leads file name at
   -- and, from there on in the section name table, as many bytes as the name has, and one more
-  name-bytes : {i : ℕ} → LookedAt file name i
+  in-name : {i : ℕ} → LookedAt file name i
       → Among (ofHeader file (nameTable file) sh-offset + ofHeader file i sh-name) (length name + 1) at
       → at < sectionEnd file (nameTable file) → Leads file name at
   -- of the first that has the name: the section's type, where it begins, and its size
-  type : {i : ℕ} → FirstMatch file name i → InField (headerAt file i) sh-type at → Leads file name at
-  offset : {i : ℕ} → FirstMatch file name i → InField (headerAt file i) sh-offset at → Leads file name at
-  size : {i : ℕ} → FirstMatch file name i → InField (headerAt file i) sh-size at → Leads file name at
+  in-type : {i : ℕ} → FirstMatch file name i → InField (headerAt file i) sh-type at → Leads file name at
+  in-offset : {i : ℕ} → FirstMatch file name i → InField (headerAt file i) sh-offset at → Leads file name at
+  in-size : {i : ℕ} → FirstMatch file name i → InField (headerAt file i) sh-size at → Leads file name at
   -- the section that is found
-  bytes : {start end : ℕ} → ExactFinding file name (ok start end) → start ≤ at → at < end → Leads file name at
+  in-section : {start end : ℕ} → ExactFinding file name (ok start end) → start ≤ at → at < end → Leads file name at
 
 -- An end that is compared with the file's length
 pub data EndTested (file name : List ℕ) : (end : ℕ) → Type 0 where
-  file-header : EndTested file name ehsize
-  headers : EndTested file name (headersEnd file)
-  names : EndTested file name (sectionEnd file (nameTable file))
-  section : {i : ℕ} → FirstMatch file name i → EndTested file name (sectionEnd file i)
+  file-header-end : EndTested file name ehsize
+  headers-end : EndTested file name (headersEnd file)
+  names-end : EndTested file name (sectionEnd file (nameTable file))
+  section-end : {i : ℕ} → FirstMatch file name i → EndTested file name (sectionEnd file i)
 
 -- Another file is like the first in what leads to the section, and in the section. Of its length only this matters: each end
 -- that is compared with it is within both files or past both, as in files of one length

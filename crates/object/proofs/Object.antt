@@ -17,7 +17,7 @@ use Rattle.elf.proofs.Same.{same-finding}
 use Rattle.section.specs.Section.{reading}
 use Rattle.section.specs.Demand3.{Demand3}
 use Rattle.listing.specs.Listing.{longLine, refusalLine, listing}
-use Rattle.object.specs.Object.{foundReading, objectReading, ExactObject, found, not-found, mostObject, foundListing, objectListing}
+use Rattle.object.specs.Object.{foundReading, objectReading, ExactObject, of-part, of-refusal, mostObject, foundListing, objectListing}
 use Rattle.object.specs.Theorems.{Object-part, Same-object}
 
 module _ (file name : List ℕ) (o : Outcome ℕ ℕ) (e : o ≡ findSection file name) where
@@ -36,7 +36,7 @@ module _ (file name : List ℕ) (place : PartPlace) (f : (foundPart place ≡ fi
     pub refusal-read : (table : List ℕ) (r : Result) → r ≡ refusal (x .number) (x .place) table → (r ≡ objectReading file name table) × ExactObject file name table r
     refusal-read table r k =
         let g = rw e at f in
-        (k ∙ read-found file name (refuse (x .number) (x .place)) (g .0) table, not-found (g .1) k)
+        (k ∙ read-found file name (refuse (x .number) (x .place)) (g .0) table, of-refusal (g .1) k)
 
     pub refusal-listed : length file ≤ mostObject → refusalLine (x .number) (x .place) ≡ objectListing file name
     refusal-listed h = let g = rw e at f in list-found file name (refuse (x .number) (x .place)) (g .0) h
@@ -47,7 +47,7 @@ module _ (file name : List ℕ) (place : PartPlace) (f : (foundPart place ≡ fi
     part-read table r d =
         let g = rw e at f in
         let h = rw p at d in
-        (h .0 ∙ read-found file name (ok start (start + len)) (g .0) table, found (g .1) (h .1))
+        (h .0 ∙ read-found file name (ok start (start + len)) (g .0) table, of-part (g .1) (h .1))
 
     pub part-listed : length file ≤ mostObject → listing s ≡ objectListing file name
     part-listed h = let g = rw e at f in ap listing p ∙ list-found file name (ok start (start + len)) (g .0) h

@@ -25,8 +25,8 @@ objectReading file name table = foundReading file (findSection file name) table
 
 -- The same by conditions: demand 3 of the part that is found; or the refusal, under its condition
 pub data ExactObject (file name table : List ℕ) (r : Result) : Type 0 where
-  found : {start end : ℕ} → ExactFinding file name (ok start end) → Demand3 (between file start end) table r → ExactObject file name table r
-  not-found : {n p : ℕ} → ExactFinding file name (refuse n p) → r ≡ refusal n p table → ExactObject file name table r
+  of-part : {start end : ℕ} → ExactFinding file name (ok start end) → Demand3 (between file start end) table r → ExactObject file name table r
+  of-refusal : {n p : ℕ} → ExactFinding file name (refuse n p) → r ≡ refusal n p table → ExactObject file name table r
 
 -- The most bytes of a file whose section is listed
 abbrev pub mostObject : ℕ

@@ -13,7 +13,7 @@ use Rattle.layout.specs.Reading.{Outcome, ok, refuse}
 use Rattle.layout.proofs.BadReads.{not-true}
 use Rattle.bytes.specs.Bytes.{same}
 use Rattle.bytes.proofs.Compared.{same-sound, same-refl}
-use Rattle.elf.specs.Elf.{e-shnum, sh-name, sh-type, elfmag, sht-nobits, ofFile, headerAt, ofHeader, sectionEnd, nameTable, Elf64, SectionTables, SectionName, NamedAt, Matches, FirstMatch}
+use Rattle.elf.specs.Elf.{e-shnum, sh-type, elfmag, sht-nobits, ofFile, headerAt, ofHeader, Elf64, SectionTables, SectionName, NamedAt, Matches, FirstMatch}
 use Rattle.elf.specs.Finding.{ExactFinding, other-file, no-tables, no-match, no-bytes, past-end, found}
 use Rattle.elf.specs.Find.{isElf64, endsInFile, hasTables, noZero, isName, isNamedAt, headerSection, firstNamed, findSection}
 use Rattle.elf.specs.Theorems.{Finding-exact, Found-lies}

@@ -1,14 +1,14 @@
 -- Files that are alike in what leads to a section give the same outcome.
 use Prim.Native.Nat.{ℕ, zero, suc, _+_, _*_, _-_, _≤_, _<_}
 use native.Mathlib.Omega.{arith}
-use mathlib.Core.Bool.{Bool, true, false}
+use mathlib.Core.Bool.{true}
 use mathlib.Core.List.{List, [], _∷_, _++_}
 use mathlib.Core.Logic.{_↔_}
 use mathlib.Core.Path.{_≡_, refl, sym, ap, _∙_}
 use lib.Dec.{leb}
 use lib.ListN.{length, getD, take, drop, length-take, length-drop}
 use lib.Seq.{ext-getD, getD-take, getD-drop, length-take-le}
-use borrow.Author.Tests.{leb-true, leb-false, le-leb, lt-leb}
+use borrow.Author.Tests.{leb-true, leb-false, le-leb}
 use Rattle.layout.specs.Reading.{Outcome, ok, refuse}
 use Rattle.layout.proofs.BadReads.{not-true}
 use Rattle.bytes.specs.Bytes.{same}
@@ -17,7 +17,7 @@ use Rattle.place.proofs.Between.{length-between}
 use Rattle.elf.specs.Elf.{little, HeaderField, e-shoff, e-shentsize, e-shnum, sh-name, sh-type, sh-offset, sh-size, ofFile, headerAt, headersEnd, ofHeader, sectionEnd, sectionIn, nameTable, SectionTables, Matches, FirstMatch}
 use Rattle.elf.specs.Finding.{ExactFinding}
 use Rattle.elf.specs.Find.{isElf64, endsInFile, hasTables, isName, isNamedAt, headerSection, firstNamed, findSection}
-use Rattle.elf.specs.Reads.{Among, InField, LookedAt, Leads, in-ident, in-shoff, in-shentsize, in-shnum, in-shstrndx, in-names-offset, in-names-size, in-name-offset, in-name, in-type, in-offset, in-size, in-section, EndTested, file-header-end, headers-end, names-end, section-end, Alike}
+use Rattle.elf.specs.Reads.{Among, InField, LookedAt, in-ident, in-shoff, in-shentsize, in-shnum, in-shstrndx, in-names-offset, in-names-size, in-name-offset, in-name, in-type, in-offset, in-size, in-section, EndTested, file-header-end, headers-end, names-end, section-end, Alike}
 use Rattle.elf.specs.Theorems.{Same-finding}
 use Rattle.elf.proofs.Steps.{tables-sound, hasName, find-18, find-19, find-20, find-search}
 use Rattle.elf.proofs.Exact.{by-cases, test-match, none-before, find-sound, found-lies}

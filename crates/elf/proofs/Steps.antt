@@ -11,7 +11,7 @@ use borrow.Author.Tests.{leb-true, leb-false, ltb-true, eq-eqb, ne-eqb, le-leb, 
 use Rattle.layout.specs.Reading.{ok, refuse}
 use Rattle.bytes.specs.Bytes.{same}
 use Rattle.place.specs.Place.{between}
-use Rattle.elf.specs.Elf.{HeaderField, little, e-shoff, e-shentsize, e-shnum, sh-name, sh-type, sh-offset, sh-size, elfmag, fieldIn, ofFile, headerAt, headersEnd, ofHeader, sectionIn, nameTable, SectionTables}
+use Rattle.elf.specs.Elf.{little, e-shoff, e-shentsize, e-shnum, sh-name, sh-type, sh-offset, sh-size, elfmag, fieldIn, ofFile, headerAt, headersEnd, ofHeader, sectionIn, nameTable, SectionTables}
 use Rattle.elf.specs.Find.{isElf64, endBy, endsInFile, hasTables, isName, isNamedAt, headerSection, firstNamed, findSection}
 
 -- The kind of a file

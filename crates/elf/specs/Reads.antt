@@ -54,8 +54,8 @@ pub data EndTested (file name : List ℕ) : (end : ℕ) → Type 0 where
   names-end : EndTested file name (sectionEnd file (nameTable file))
   section-end : {i : ℕ} → FirstMatch file name i → EndTested file name (sectionEnd file i)
 
--- Another file is like the first in what leads to the section, and in the section. Of its length only this matters: each end
--- that is compared with it is within both files or past both, as in files of one length
+-- Another file is like the first in what leads to the section, and in the section; a byte past a file's end counts as 0. Of the
+-- length only this matters: each end that is compared with it is within both files or past both, as in files of one length
 pub record Alike (file other name : List ℕ) : Type 0 where
   pub same-bytes : (at : ℕ) → Leads file name at → getD file at 0 ≡ getD other at 0
   pub same-ends : (end : ℕ) → EndTested file name end → (end ≤ length file) ↔ (end ≤ length other)

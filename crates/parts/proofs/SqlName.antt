@@ -6,10 +6,9 @@ use mathlib.Core.List.{List, [], _∷_}
 use mathlib.Core.Path.{_≡_, refl, sym, ap, _∙_}
 use lib.Dec.{eqb}
 use lib.ListN.{length, getD, take, drop, length-drop}
-use lib.Seq.{drop-cons, drop-drop, length-take-le}
+use lib.Seq.{drop-cons, drop-drop}
 use Rattle.layout.specs.Reading.{Outcome, ok, refuse}
 use Rattle.layout.proofs.InBytes.{drop-take}
-use Rattle.table.specs.declared.Row.{Row}
 use Rattle.place.specs.Place.{between, partOf, numberIn, placeIn}
 use Rattle.place.proofs.Between.{length-between}
 use Rattle.parts.specs.Parts.{rowText, colon, afterLast, sqlName, sqlNameIn}

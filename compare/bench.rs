@@ -1,9 +1,12 @@
-//! The reading of a section beside the Rust's `decode_entities`, in one process and by turns; then the time of the path report,
-//! on 10,000 entities at most, or with `--paths` on as many as fit a section. Built and run by `compare/bench`.
+//! The reading of a section beside the Rust's `decode_entities`, in one process and by turns; the directory, and what holds a
+//! byte, beside that reading; then the time of the path report, on 10,000 entities at most, or with `--paths` on as many as fit
+//! a section. Built and run by `compare/bench`.
 mod common;
+mod exports;
 mod sections;
 
 use common::{median, Random};
+use exports::{entity_at, read_directory, Record};
 use pgrx_sql_entity_graph::section::decode_entities;
 use pgrxsc::{path_repeats, read_section, Refusal, LIMIT, ROW_WIDTH};
 use sections::{entries, function, schema, Entry, MIB};
@@ -115,6 +118,46 @@ fn growth() {
     );
 }
 
+/// The reading, the directory, and what holds the last byte of a section that ends with an entity, by turns. The goals are for
+/// the ratios of the latter two to the reading.
+fn directory(name: &str, section: &[u8], goal: f64, goal_at: f64) {
+    let mut table = vec![0; ROW_WIDTH * section.len()];
+    let (count, rows) = read(section, &mut table).expect("accepted");
+    table.truncate(ROW_WIDTH * rows);
+    let mut records = vec![Record::default(); count];
+    let last = section.len() as u64 - 1;
+    let mut times = [const { Vec::new() }; 3];
+    for _ in 0..TURNS {
+        let (time, answer) = milliseconds(|| read(black_box(section), &mut table));
+        assert_eq!(answer, Ok((count, rows)), "{name}: the reading");
+        times[0].push(time);
+        let (time, answer) = milliseconds(|| read_directory(black_box(section), &mut table, &mut records));
+        assert_eq!(answer, [0, 0, count as u64, rows as u64], "{name}: the directory");
+        times[1].push(time);
+        let (time, answer) = milliseconds(|| entity_at(black_box(section), last));
+        assert_eq!(answer, [0, 0, 1, count as u64 - 1], "{name}: the last byte");
+        times[2].push(time);
+    }
+    let ratio = |i: usize| median((0..TURNS).map(|turn| times[i][turn] / times[0][turn]).collect());
+    let (ratio, ratio_at) = (ratio(1), ratio(2));
+    let [read, list, at] = times.map(median);
+    print!("{name:32} {:9} {count:8} {rows:8} {read:9.3}", section.len());
+    println!(" {list:9.3} {ratio:7.2}x {goal:4.1}x {at:9.3} {ratio_at:7.2}x {goal_at:4.1}x");
+}
+
+fn directories() {
+    println!(
+        "\nThe directory, and what holds the last byte, beside the reading: milliseconds, medians of {TURNS} turns."
+    );
+    println!("The ratios to the reading are medians of the turns' ratios, and are to be at most the goals.\n");
+    println!(
+        "{:32} {:>9} {:>8} {:>8} {:>9} {:>9} {:>8} {:>5} {:>9} {:>8} {:>5}",
+        "a section of", "bytes", "entities", "rows", "read", "directory", "ratio", "goal", "last byte", "ratio", "goal"
+    );
+    directory("functions, 8 MiB", &entries(8 * MIB, function), 1.3, 1.0);
+    directory("empty schemas, 8 MiB", &entries(8 * MIB, |_| schema(b"")), 2.0, 1.0);
+}
+
 /// Prints the time of the path report on `count` entries, of which `pairs` pairs repeat a path.
 fn report(name: &str, count: usize, pairs: u64, entry: impl Fn(usize) -> Entry) {
     let mut section = Vec::new();
@@ -207,5 +250,6 @@ fn main() {
         large.1 / small.1
     );
     growth();
+    directories();
     paths(std::env::args().any(|word| word == "--paths"));
 }

@@ -2,24 +2,22 @@
 use crate::common::Random;
 use crate::flatten;
 use crate::generate::Generator;
+use crate::inputs::Compare;
 use crate::layouts::{self, Reading};
-use crate::rebuild::{self, Calls, Objects};
-use crate::sample::hexadecimal;
+use crate::objects::{oracle, Objects, MOST_RESERVED};
+use crate::rebuild::{self, Calls};
+use crate::report::{self, shortened, Classes};
 use crate::spelled;
 use crate::what::{numbers, part, sql_text, SqlText, What};
 use crate::written::{self, Value};
 use pgrx_sql_entity_graph::metadata::SqlMapping;
-use pgrx_sql_entity_graph::section::{decode_entities, decode_entity, EntryReader};
+use pgrx_sql_entity_graph::section::EntryReader;
 use pgrx_sql_entity_graph::SqlGraphEntity;
 use pgrxsc::{Refusal, Row, Sort, LIMIT, ROW_WIDTH, SQL_TEXT_SIZE};
-use std::collections::{BTreeMap, HashMap};
+use std::collections::HashMap;
 use std::fmt::Debug;
 use std::hash::Hash;
 use std::mem::{discriminant, Discriminant};
-use std::panic::{catch_unwind, AssertUnwindSafe};
-
-/// The largest count in the domain, since the Rust reserves memory for a count before it reads an item.
-pub const MOST_RESERVED: u32 = 100_000;
 
 /// What a table has in it, and after it, before a call.
 const JUNK: u32 = 0xa5a5_a5a5;
@@ -33,19 +31,10 @@ const WATCHED: usize = 4;
 /// The numbers of entities and rows, or the refusal.
 type Counts = Result<(usize, usize), Refusal>;
 
-/// How many inputs of a class there were, and how many of them the Rust accepted, the Rust refused, and lie outside the domain.
-#[derive(Default)]
-pub struct Class {
-    pub inputs: u64,
-    pub accepted: u64,
-    pub refused: u64,
-    pub outside: u64,
-}
-
 /// What was compared so far, and room for the tables.
 #[derive(Default)]
 pub struct Comparison {
-    pub classes: BTreeMap<&'static str, Class>,
+    pub classes: Classes,
     pub refusals: [u64; 18],
     pub entities: u64,
     /// Texts that the Rust's objects borrow, at the places that the rows give.
@@ -80,18 +69,6 @@ pub struct Comparison {
     by_layouts: Reading,
 }
 
-/// What the Rust reads, if it accepts.
-pub fn oracle(what: What, bytes: &[u8]) -> Option<Objects<'_>> {
-    let mut reader = EntryReader::new(bytes);
-    let objects = match what {
-        What::Section => return decode_entities(bytes).ok().map(Objects::Entities),
-        What::Payload => return decode_entity(bytes).ok().map(|entity| Objects::Entities(vec![entity])),
-        What::Metadata => Objects::Metadata(reader.read_function_metadata_type().ok()?),
-        What::Mapping => Objects::Mapping(reader.read_sql_mapping_owned().ok()?),
-    };
-    reader.finish().ok().map(|()| objects)
-}
-
 /// How many pairs of some things are equal.
 fn pairs<T: Eq + Hash>(things: impl Iterator<Item = T>) -> u64 {
     let mut seen = HashMap::new();
@@ -111,52 +88,63 @@ fn kinds_and_paths<'a>(
     entities.iter().filter_map(|entity| flatten::full_path(entity).map(|path| (discriminant(entity), path)))
 }
 
-impl Comparison {
-    /// Counts a difference, and prints the first ones.
-    fn differ(&mut self, what: impl Debug, bytes: &[u8], why: &str) {
-        self.differences += 1;
-        if self.differences <= 10 {
-            let why: String = why.chars().take(2000).collect();
-            println!("a difference on {} bytes as {what:?}: {why}\n  {}", bytes.len(), shortened(bytes));
-        }
-    }
-
-    /// Counts a difference if the comparison finds one, or if the crate panics, as it does where an answer of the archive breaks
-    /// the header's promises.
-    fn attempt(&mut self, what: impl Debug, bytes: &[u8], compare: impl FnOnce(&mut Self) -> Result<(), String>) {
-        let panicked = |_| Err("a panic, whose message stands above".to_string());
-        if let Err(why) = catch_unwind(AssertUnwindSafe(|| compare(self))).unwrap_or_else(panicked) {
-            self.differ(what, bytes, &why);
-        }
-    }
-
-    /// Compares the check of a text.
-    pub fn text(&mut self, bytes: &[u8]) {
-        self.checks += 1;
-        if pgrxsc::is_text(bytes) != std::str::from_utf8(bytes).is_ok() {
-            self.differ("a text", bytes, "the check of a text says otherwise");
-        }
-    }
-
-    /// Compares the reading of one input.
-    pub fn reading(&mut self, class: &'static str, what: What, bytes: &[u8]) {
+impl Compare for Comparison {
+    fn reading(&mut self, class: &'static str, what: What, bytes: &[u8]) {
         self.turn += 1;
         let mut reading = std::mem::take(&mut self.by_layouts);
         let expected = reading.read(what, bytes);
         let in_domain = bytes.len() <= LIMIT && reading.most <= MOST_RESERVED;
         let theirs = in_domain.then(|| oracle(what, bytes));
 
-        let class = self.classes.entry(class).or_default();
-        class.inputs += 1;
-        match &theirs {
-            Some(Some(_)) => class.accepted += 1,
-            Some(None) => class.refused += 1,
-            None => class.outside += 1,
-        }
+        self.classes.entry(class).or_default().add(&theirs);
         let expected = expected.map(|()| (reading.entities, reading.rows.len()));
         self.refusals[expected.err().map_or(0, |refusal| refusal.number() as usize)] += 1;
         self.attempt(what, bytes, |this| this.compare_answers(what, bytes, &reading, expected, &theirs));
         self.by_layouts = reading;
+    }
+
+    fn writing_back(&mut self, class: &'static str, bytes: &[u8]) {
+        let rows = numbers(&self.by_layouts.rows);
+        self.written_rows(class, What::Section, &rows, bytes, 0);
+    }
+
+    fn parts(&mut self, bytes: &[u8], random: &mut Random) {
+        let rows = &self.by_layouts.rows;
+        let none = Row::new(Sort::Text, 0, 0);
+        let mut any = || if rows.is_empty() { none } else { rows[random.below(rows.len())] };
+        let (text, mapping) = (any(), any());
+        let size = [SQL_TEXT_SIZE, SQL_TEXT_SIZE, SQL_TEXT_SIZE, 30, 32, 0][random.below(6)];
+        let mut near = |number: u32| match random.below(8) {
+            0..3 => number.wrapping_add(random.below(5) as u32).wrapping_sub(2),
+            3 => random.next() as u32 >> random.below(32),
+            _ => number,
+        };
+        let (row, offset) = (Row::new(text.sort, near(text.offset), near(text.value)), near(mapping.offset));
+        self.attempt("parts", bytes, |this| {
+            this.compare_row(bytes, row)?;
+            this.compare_sql_text(bytes, offset, size)
+        });
+    }
+
+    fn text(&mut self, bytes: &[u8]) {
+        self.checks += 1;
+        if pgrxsc::is_text(bytes) != std::str::from_utf8(bytes).is_ok() {
+            self.differ("a text", bytes, "the check of a text says otherwise");
+        }
+    }
+}
+
+impl Comparison {
+    /// Counts a difference.
+    fn differ(&mut self, what: impl Debug, bytes: &[u8], why: &str) {
+        report::differ(&mut self.differences, what, bytes, why);
+    }
+
+    /// Counts a difference if the comparison finds one.
+    fn attempt(&mut self, what: impl Debug, bytes: &[u8], compare: impl FnOnce(&mut Self) -> Result<(), String>) {
+        if let Err(why) = report::attempt(|| compare(self)) {
+            self.differ(what, bytes, &why);
+        }
     }
 
     /// Compares the answer to one input with the Rust's, if there is one, and with that of the layouts.
@@ -283,25 +271,6 @@ impl Comparison {
             true => Ok(()),
             false => Err(format!("a table of a row less gives {answer:?}, {:?}", self.table)),
         }
-    }
-
-    /// Compares the texts of any row, and the SQL text at any offset: near those of the last input, which had these bytes.
-    pub fn parts(&mut self, bytes: &[u8], random: &mut Random) {
-        let rows = &self.by_layouts.rows;
-        let none = Row::new(Sort::Text, 0, 0);
-        let mut any = || if rows.is_empty() { none } else { rows[random.below(rows.len())] };
-        let (text, mapping) = (any(), any());
-        let size = [SQL_TEXT_SIZE, SQL_TEXT_SIZE, SQL_TEXT_SIZE, 30, 32, 0][random.below(6)];
-        let mut near = |number: u32| match random.below(8) {
-            0..3 => number.wrapping_add(random.below(5) as u32).wrapping_sub(2),
-            3 => random.next() as u32 >> random.below(32),
-            _ => number,
-        };
-        let (row, offset) = (Row::new(text.sort, near(text.offset), near(text.value)), near(mapping.offset));
-        self.attempt("parts", bytes, |this| {
-            this.compare_row(bytes, row)?;
-            this.compare_sql_text(bytes, offset, size)
-        });
     }
 
     /// Compares the text and the SQL name of a row that need not come from a reading.
@@ -446,12 +415,6 @@ impl Comparison {
         self.written_rows(damaged, what, &rows, &text, more);
     }
 
-    /// Compares the writing of a section from the rows that were read last, those of these bytes.
-    pub fn writing_back(&mut self, class: &'static str, bytes: &[u8]) {
-        let rows = numbers(&self.by_layouts.rows);
-        self.written_rows(class, What::Section, &rows, bytes, 0);
-    }
-
     /// Compares the length and the writing of rows, and then the reading of what was written, which is returned. The destination
     /// has some bytes more than are needed.
     fn written_rows(
@@ -570,12 +533,4 @@ fn is_numeric(rows: &[Row]) -> bool {
 /// Whether a row is one of the four after the tag of a Numeric.
 fn in_numeric(rows: &[Row], at: usize) -> bool {
     (at.saturating_sub(4)..at).any(|tag| is_numeric(&rows[tag..]))
-}
-
-/// Bytes in hexadecimal, the first and the last of many.
-fn shortened(bytes: &[u8]) -> String {
-    match bytes.len() {
-        0..=600 => hexadecimal(bytes),
-        len => format!("{} .. {}", hexadecimal(&bytes[..300]), hexadecimal(&bytes[len - 300..])),
-    }
 }

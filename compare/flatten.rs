@@ -1,6 +1,6 @@
 //! The leaves of the Rust's objects, in the order in which they stand in a payload. A Numeric mapping is an As there.
 use crate::layouts::{ARRAY, AS, COMPOSITE, SKIP};
-use crate::rebuild::Objects;
+use crate::objects::Objects;
 use pgrx_sql_entity_graph::metadata::*;
 use pgrx_sql_entity_graph::section as s;
 use pgrx_sql_entity_graph::*;
@@ -12,6 +12,8 @@ pub struct Leaves<'a> {
     pub dump: Vec<u8>,
     /// The texts that the objects borrow from the bytes that were read.
     pub borrowed: Vec<&'a str>,
+    /// How many leaves there are.
+    pub count: usize,
 }
 
 pub fn leaves<'a>(objects: &'a Objects<'a>) -> Leaves<'a> {
@@ -42,6 +44,7 @@ pub fn full_path<'a>(entity: &SqlGraphEntity<'a>) -> Option<&'a str> {
 impl<'a> Leaves<'a> {
     fn number(&mut self, number: u32) {
         self.dump.extend(number.to_le_bytes());
+        self.count += 1;
     }
 
     fn tag(&mut self, tag: u8) {
@@ -54,6 +57,7 @@ impl<'a> Leaves<'a> {
 
     fn owned(&mut self, text: &str) {
         self.dump.extend(text.as_bytes());
+        self.count += 1;
     }
 
     fn text(&mut self, text: &'a str) {
@@ -303,7 +307,7 @@ impl<'a> Leaves<'a> {
         }
     }
 
-    fn entity(&mut self, entity: &'a SqlGraphEntity<'a>) {
+    pub fn entity(&mut self, entity: &'a SqlGraphEntity<'a>) {
         match entity {
             SqlGraphEntity::Schema(entity) => {
                 self.tag(s::ENTITY_SCHEMA);

@@ -2,19 +2,12 @@
 //! texts.
 use crate::comparison::UNTOUCHED;
 use crate::layouts::{ARRAY, AS, COMPOSITE, NUMERIC, SKIP};
+use crate::objects::Objects;
 use crate::what::{part, sql_text, SqlText, What};
 use pgrx_sql_entity_graph::metadata::*;
 use pgrx_sql_entity_graph::section as s;
 use pgrx_sql_entity_graph::*;
 use pgrxsc::{Refusal, Row, Sort, SQL_TEXT_SIZE};
-
-/// What the Rust reads bytes as.
-#[derive(Debug, PartialEq)]
-pub enum Objects<'a> {
-    Entities(Vec<SqlGraphEntity<'a>>),
-    Metadata(FunctionMetadataTypeEntity<'a>),
-    Mapping(SqlMapping),
-}
 
 /// Why the rows make no object.
 pub type Built<T> = Result<T, String>;

@@ -11,10 +11,11 @@
 //!         A metadata record or a mapping, with the numbers of its rows joined by commas. The destination held EE before.
 //!
 //! Bytes are in hexadecimal, - for none.
-use crate::comparison::{oracle, MOST_RESERVED, UNTOUCHED};
+use crate::comparison::UNTOUCHED;
 use crate::generate::Generator;
 use crate::layouts::{Reading, AS};
-use crate::rebuild::Objects;
+use crate::objects::{oracle, Objects, MOST_RESERVED};
+use crate::report::hexadecimal;
 use crate::what::{numbers, What};
 use crate::{flatten, written};
 use pgrx_sql_entity_graph::metadata::SqlMapping;
@@ -24,13 +25,6 @@ use pgrxsc::{Row, Sort, SQL_TEXT_SIZE};
 
 /// Longer sections are left out.
 const MOST_BYTES: usize = 400;
-
-pub fn hexadecimal(bytes: &[u8]) -> String {
-    match bytes.is_empty() {
-        true => "-".to_string(),
-        false => bytes.iter().map(|byte| format!("{byte:02x}")).collect(),
-    }
-}
 
 /// Prints `count` lines: of each eight, four of sections and one of each other letter.
 pub fn print(count: u64, seed: u64) {

@@ -5,8 +5,9 @@
  * reserves no memory, keeps no state and writes nowhere but to what it is lent. So all functions may be called from several
  * threads at a time. docs/FORMAT.md describes the format, the rows and the refusals at length.
  *
- * Bytes and tables are lent as a pointer and a length; the length of a table counts its 32-bit numbers. A pointer must not be
- * NULL, also where the length is 0, and what a call may change must not overlap what else it is lent.
+ * Bytes, tables and lists are lent as a pointer and a length; the length of a table counts its 32-bit numbers, and that of a list
+ * its records. A pointer must not be NULL, also where the length is 0, and what a call may change must not overlap what else it
+ * is lent.
  *
  * The answer of a call is four numbers:
  *
@@ -69,10 +70,11 @@
  *                                section found does, unless its type is 8
  *   20      NO_SUCH_SECTION      no section has the name given, or the section found is of  0
  *                                type 8 (SHT_NOBITS), without bytes in the file
+ *   21      LIST_TOO_SMALL       the list has fewer records than the section has entities   0
  *
  * A boundary is the section's start or the end of an entry. 1 comes first, then 2 to 4 at the first bad boundary, then 5 to 12
- * at the first bad read, then 13. A writer's refusals come in the order 14 to 17. Those of finding a section in a file come in
- * the order 18 to 20.
+ * at the first bad read, then 13, then 21. A writer's refusals come in the order 14 to 17. Those of finding a section in a file
+ * come in the order 18 to 20.
  */
 #ifndef PGRXSC_H
 #define PGRXSC_H
@@ -86,9 +88,9 @@ extern "C" {
 #endif
 
 /*
- * The version of this header. It grows by one whenever a function, a row or a refusal is gone, or changes its shape or its
- * meaning, as when a row gets another number. Header and archive must be of the same version; if they are not, the program may
- * still link. So compare the two before the first other call:
+ * The version of this header. It grows by one whenever a function, a row, a record or a refusal is gone, or changes its shape or
+ * its meaning, as when a row gets another number. Header and archive must be of the same version; if they are not, the program
+ * may still link. So compare the two before the first other call:
  *
  *   if (pgrxsc_version() != PGRXSC_VERSION) ...
  */
@@ -149,6 +151,7 @@ uint32_t pgrxsc_version(void);
 #define PGRXSC_REFUSAL_NOT_ELF64 18
 #define PGRXSC_REFUSAL_BAD_SECTION_HEADERS 19
 #define PGRXSC_REFUSAL_NO_SUCH_SECTION 20
+#define PGRXSC_REFUSAL_LIST_TOO_SMALL 21
 
 /*
  * Finds a section of a 64-bit little-endian ELF file by its name: PGRXSC_ELF_SECTION_NAME for the schema section of an extension.
@@ -175,6 +178,33 @@ void pgrxsc_read_metadata(const uint8_t *bytes, size_t len, uint32_t *table, siz
 
 /* The same for one mapping alone. */
 void pgrxsc_read_mapping(const uint8_t *bytes, size_t len, uint32_t *table, size_t table_len, uint64_t answer[4]);
+
+/* The record of an entity in a section's directory. */
+struct pgrxsc_record {
+    uint32_t kind;      /* the entity's kind, 1 to 9 */
+    uint32_t start;     /* where its entry starts, with the 4 bytes of the entry's length; counted from the section's start */
+    uint32_t length;    /* how many bytes the entry has, those 4 included */
+    uint32_t first_row; /* the index of the entity's first row, from 0 */
+    uint32_t row_count; /* how many rows the entity has */
+};
+
+/*
+ * Reads a whole section, with its directory. Answer and table are those of pgrxsc_read_section, but for refusal 21. Record i of
+ * the list is then that of entity i, where the entities are counted from 0 in the order of reading; sentinels have no records.
+ * Records after the last entity's are unchanged. After every refusal the list is unchanged and the table all 0. A list of
+ * len / 21 records is always large enough, since the entry of an entity takes 21 bytes or more. Refusals 1 to 13 and 21.
+ */
+void pgrxsc_read_directory(const uint8_t *bytes, size_t len, uint32_t *table, size_t table_len, struct pgrxsc_record *records,
+                           size_t records_len, uint64_t answer[4]);
+
+/*
+ * Tells which entity of a section holds a position, counted from the section's start. For a position in a file, subtract the
+ * section's start first, which pgrxsc_find_section gives. a is 1 if the position lies in the entry of an entity, whose first
+ * bytes are the 4 of its length, and b is then the index of that entity, from 0. Else both are 0: sentinels, padding and what is
+ * past the section's end belong to no entity. Each call reads the whole section; for many positions, search the records of
+ * pgrxsc_read_directory, whose starts rise. Refusals 1 to 12.
+ */
+void pgrxsc_entity_at(const uint8_t *bytes, size_t len, uint64_t position, uint64_t answer[4]);
 
 /*
  * The text of a row: a is its start in the bytes, b its length. The row is tested and need not come from a reading. Refusals 1

@@ -1,6 +1,7 @@
 use crate::ffi;
 use crate::refusal::accepted;
 use crate::Refusal;
+use std::ops::Range;
 
 /// A section of a 64-bit little-endian ELF file, found by its name, as a part of the file.
 ///
@@ -49,8 +50,20 @@ use crate::Refusal;
 /// # Ok::<(), pgrxsc::Refusal>(())
 /// ```
 pub fn find_section(file: &[u8], name: impl AsRef<[u8]>) -> Result<&[u8], Refusal> {
+    Ok(&file[section_range(file, name)?])
+}
+
+/// Where in the file the section lies that [`find_section`] finds.
+///
+/// A position in the file, as a linker map has it, less the range's start is the position in the
+/// section, as [`Directory::at`](crate::Directory::at) and [`entity_at`](crate::entity_at) take it.
+///
+/// # Errors
+///
+/// Those of [`find_section`].
+pub fn section_range(file: &[u8], name: impl AsRef<[u8]>) -> Result<Range<usize>, Refusal> {
     let (start, len) = accepted(ffi::find_section(file, name.as_ref()))?;
     // By the archive's contract the section lies in the file. That is tested again.
-    let section = file.get(start..).and_then(|bytes| bytes.get(..len));
-    Ok(section.expect("the archive gives sections that lie in the file that it was lent"))
+    let end = start.checked_add(len).filter(|&end| end <= file.len());
+    Ok(start..end.expect("the archive gives sections that lie in the file that it was lent"))
 }

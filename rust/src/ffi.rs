@@ -6,7 +6,7 @@
 //! else that is lent. That the declarations are those of the archive is tested at the first call, by
 //! the version.
 
-use crate::{Row, VERSION};
+use crate::{Record, Row, VERSION};
 use std::sync::atomic::{AtomicBool, Ordering};
 
 /// The four numbers of an answer: a refusal's number and place, then a and b.
@@ -16,6 +16,8 @@ pub(crate) type Answer = [u64; 4];
 const UNANSWERED: Answer = [u64::MAX; 4];
 
 mod archive {
+    use crate::Record;
+
     extern "C" {
         pub fn pgrxsc_version() -> u32;
         pub fn pgrxsc_find_section(
@@ -53,6 +55,16 @@ mod archive {
             table_len: usize,
             answer: *mut u64,
         );
+        pub fn pgrxsc_read_directory(
+            bytes: *const u8,
+            len: usize,
+            table: *mut u32,
+            table_len: usize,
+            records: *mut Record,
+            records_len: usize,
+            answer: *mut u64,
+        );
+        pub fn pgrxsc_entity_at(bytes: *const u8, len: usize, position: u64, answer: *mut u64);
         pub fn pgrxsc_row_text(
             bytes: *const u8,
             len: usize,
@@ -220,6 +232,39 @@ pub(crate) fn read(form: Form, bytes: &[u8], table: &mut [u32]) -> Answer {
             table.len(),
             answer.as_mut_ptr(),
         );
+    }
+    answer
+}
+
+/// a is the number of entities, b the number of rows.
+pub(crate) fn read_directory(bytes: &[u8], table: &mut [u32], records: &mut [Record]) -> Answer {
+    check_version();
+    let mut answer = UNANSWERED;
+    // SAFETY: the pointers and lengths are those of slices, the answer has four numbers, and
+    // `table`, `records` and `answer` overlap nothing, being borrowed mutably. A record is laid out
+    // as in the header, and its five numbers may be any.
+    unsafe {
+        archive::pgrxsc_read_directory(
+            bytes.as_ptr(),
+            bytes.len(),
+            table.as_mut_ptr(),
+            table.len(),
+            records.as_mut_ptr(),
+            records.len(),
+            answer.as_mut_ptr(),
+        );
+    }
+    answer
+}
+
+/// a is 1 if the entry of an entity holds the position, else 0; b is the entity's index.
+pub(crate) fn entity_at(bytes: &[u8], position: u64) -> Answer {
+    check_version();
+    let mut answer = UNANSWERED;
+    // SAFETY: pointer and length are those of a slice; the answer has four numbers and overlaps
+    // nothing. Any position may be given.
+    unsafe {
+        archive::pgrxsc_entity_at(bytes.as_ptr(), bytes.len(), position, answer.as_mut_ptr());
     }
     answer
 }

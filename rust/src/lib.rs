@@ -50,6 +50,48 @@
 //! [`path_repeats`] and a [`Builder`] reserve memory at all, by the number of bytes that they are
 //! given.
 //!
+//! # Directories
+//!
+//! A [`Directory`] is a reading with a [`Record`] for each entity, which says where the entity's
+//! entry lies in the section and which rows it has. So it can tell which entity is at a position. A
+//! linker map has positions in the file, but those of a directory count from the section's start:
+//! the section's own start in the file is subtracted first.
+//!
+//! ```
+//! use pgrxsc::{section_range, Refusal, Table, ELF_SECTION_NAME};
+//!
+//! /// What an extension declares at a position of its file, if anything.
+//! fn declared_at(file: &[u8], position: u64) -> Result<Option<String>, Refusal> {
+//!     let range = section_range(file, ELF_SECTION_NAME)?;
+//!     let start = range.start as u64;
+//!     let mut table = Table::new();
+//!     let directory = table.read_directory(&file[range])?;
+//!     let found = position.checked_sub(start).and_then(|position| directory.at(position));
+//!     Ok(found.and_then(|(index, _)| directory.entity(index)).map(|entity| {
+//!         format!("{:?}: {}", entity.kind(), entity.texts().collect::<Vec<_>>().join(", "))
+//!     }))
+//! }
+//!
+//! # // The file header, the section names, the section, which is of one schema, and the section
+//! # // headers.
+//! # let mut file = vec![0; 160 + 3 * 64];
+//! # file[..6].copy_from_slice(b"\x7fELF\x02\x01");
+//! # (file[40], file[58], file[60], file[62]) = (160, 64, 3, 2);
+//! # file[64..83].copy_from_slice(b"\0.pgrxsc\0.shstrtab\0");
+//! # file[96..128].copy_from_slice(b"\x1c\0\0\0\x01\x04\0\0\0path\x04\0\0\0name\x03\0\0\0a.b\x07\0\0\0");
+//! # for (header, name, kind, offset, size) in [(224, 1, 1, 96, 32), (288, 9, 3, 64, 19)] {
+//! #     (file[header], file[header + 4]) = (name, kind);
+//! #     (file[header + 24], file[header + 32]) = (offset, size);
+//! # }
+//! // `file` is an extension that declares one schema, in a section at bytes 96 to 127.
+//! assert_eq!(declared_at(&file, 95)?, None);
+//! assert_eq!(declared_at(&file, 96)?.unwrap(), "Schema: path, name, a.b");
+//! assert_eq!(declared_at(&file, 128)?, None);
+//! # Ok::<(), Refusal>(())
+//! ```
+//!
+//! For a single position, [`entity_at`] gives the index of the entity without a table.
+//!
 //! # Writing
 //!
 //! A writer takes rows and texts: those of a reading, or those that a [`Builder`] made. A section of
@@ -89,6 +131,7 @@
 #![deny(missing_docs)]
 
 pub mod builder;
+mod directory;
 mod elf;
 #[allow(unsafe_code)]
 mod ffi;
@@ -99,7 +142,8 @@ mod row;
 mod table;
 mod writing;
 
-pub use elf::find_section;
+pub use directory::{entity_at, read_directory, records_len, Directory, Record};
+pub use elf::{find_section, section_range};
 pub use parts::{is_text, name_start, path_repeats, row_text, sql_name, sql_text};
 pub use reading::{
     read_mapping, read_metadata, read_payload, read_section, Entities, Entity, Reading, Rows, Texts,
@@ -113,7 +157,8 @@ pub use writing::{
 };
 
 /// The version of the archive that the crate works with, `PGRXSC_VERSION` in `include/pgrxsc.h`. It
-/// grows by one whenever a function, a row or a refusal changes its shape or its meaning or is gone.
+/// grows by one whenever a function, a row, a record or a refusal changes its shape or its meaning or
+/// is gone.
 ///
 /// The first call of the archive compares it with the archive's own version, and panics if they
 /// differ. Then crate and archive are of different states of the repository: run

@@ -4,6 +4,7 @@ use crate::refusal::accepted;
 use crate::{EntityKind, Refusal, Row, Sort, ROW_WIDTH};
 use std::fmt;
 use std::iter::FusedIterator;
+use std::ops::Range;
 use std::slice::ChunksExact;
 
 /// Reads a whole section: its entities, with the sentinels and the padding passed over.
@@ -84,8 +85,8 @@ fn read<'b, 't>(
 
 /// How much was read.
 pub(crate) struct Counts {
-    entities: usize,
-    rows: usize,
+    pub(crate) entities: usize,
+    pub(crate) rows: usize,
 }
 
 /// Fills the table.
@@ -144,6 +145,22 @@ impl<'b, 't> Reading<'b, 't> {
             bytes: self.bytes,
             rest: self.numbers,
             len: self.entities,
+        }
+    }
+
+    /// The entity that has these of the rows.
+    pub(crate) fn entity(&self, rows: Range<usize>) -> Entity<'b, 't> {
+        let numbers = self
+            .numbers
+            .get(rows.start * ROW_WIDTH..rows.end * ROW_WIDTH)
+            .expect("the archive gives the rows of an entity among those of the section");
+        let first = Rows::new(numbers)
+            .next()
+            .expect("the archive gives a row for each entity");
+        Entity {
+            bytes: self.bytes,
+            numbers,
+            first,
         }
     }
 

@@ -29,11 +29,12 @@ use std::fmt;
 /// | 18 | [`NotElf64`] | the file is no 64-bit little-endian ELF file with section headers of 64 bytes | 0 |
 /// | 19 | [`BadSectionHeaders`] | the file has no section headers or no section name table, or one of the two tables ends past the file, or the section found does, unless its type is 8 | 0 |
 /// | 20 | [`NoSuchSection`] | no section has the name given, or the section found is of type 8 (`SHT_NOBITS`), without bytes in the file | 0 |
+/// | 21 | [`ListTooSmall`] | the list has fewer records than the section has entities | 0 |
 ///
 /// A reading gives 1 before all others; then 2 to 4, for the first entry that is wrong in this way;
 /// then 5 to 12, for the first value that is; then 13, which so says that nothing is wrong with the
-/// bytes. A writer gives the first of 14 to 17 that applies, and [`find_section`] the first of 18 to
-/// 20.
+/// bytes; and then, in [`read_directory`] alone, 21. A writer gives the first of 14 to 17 that
+/// applies, and [`find_section`] the first of 18 to 20.
 ///
 /// ```
 /// use pgrxsc::{read_section, Refusal, RefusalKind};
@@ -65,6 +66,8 @@ use std::fmt;
 /// [`NotElf64`]: RefusalKind::NotElf64
 /// [`BadSectionHeaders`]: RefusalKind::BadSectionHeaders
 /// [`NoSuchSection`]: RefusalKind::NoSuchSection
+/// [`ListTooSmall`]: RefusalKind::ListTooSmall
+/// [`read_directory`]: crate::read_directory
 /// [`find_section`]: crate::find_section
 #[derive(Clone, Copy, Debug, PartialEq, Eq, Hash)]
 pub struct Refusal {
@@ -78,12 +81,12 @@ impl Refusal {
         Refusal { number, place }
     }
 
-    /// Which refusal it is, 1 to 20.
+    /// Which refusal it is, 1 to 21.
     pub const fn number(self) -> u32 {
         self.number
     }
 
-    /// Which refusal it is, by name. `None` for another number than 1 to 20, which only
+    /// Which refusal it is, by name. `None` for another number than 1 to 21, which only
     /// [`Refusal::new`] can give it.
     pub const fn kind(self) -> Option<RefusalKind> {
         RefusalKind::from_number(self.number)
@@ -143,15 +146,17 @@ pub enum RefusalKind {
     BadSectionHeaders = 19,
     /// No section of the file has the name given, or the one found has no bytes in the file.
     NoSuchSection = 20,
+    /// The list has fewer records than the section has entities.
+    ListTooSmall = 21,
 }
 
 impl RefusalKind {
-    /// The refusal's number, 1 to 20.
+    /// The refusal's number, 1 to 21.
     pub const fn number(self) -> u32 {
         self as u32
     }
 
-    /// The refusal of a number, if it is 1 to 20.
+    /// The refusal of a number, if it is 1 to 21.
     pub const fn from_number(number: u32) -> Option<RefusalKind> {
         Some(match number {
             1 => RefusalKind::InputTooLong,
@@ -174,6 +179,7 @@ impl RefusalKind {
             18 => RefusalKind::NotElf64,
             19 => RefusalKind::BadSectionHeaders,
             20 => RefusalKind::NoSuchSection,
+            21 => RefusalKind::ListTooSmall,
             _ => return None,
         })
     }
@@ -188,7 +194,7 @@ pub(crate) fn accepted([number, place, a, b]: Answer) -> Result<(usize, usize), 
     let kind = u32::try_from(number)
         .ok()
         .and_then(RefusalKind::from_number)
-        .expect("the archive gives a refusal by a number of 1 to 20");
+        .expect("the archive gives a refusal by a number of 1 to 21");
     Err(Refusal::new(kind.number(), size(place)))
 }
 
@@ -267,6 +273,10 @@ impl fmt::Display for Refusal {
             RefusalKind::NoSuchSection => write!(
                 f,
                 "the file has no section of that name, or one without bytes in the file"
+            ),
+            RefusalKind::ListTooSmall => write!(
+                f,
+                "the list has fewer records than the section has entities"
             ),
         }?;
         write!(f, " (refusal {number})")

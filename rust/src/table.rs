@@ -1,6 +1,7 @@
+use crate::directory;
 use crate::ffi::Form;
-use crate::reading::fill;
-use crate::{Reading, Refusal, RefusalKind, LIMIT, ROW_WIDTH};
+use crate::reading::{self, Counts};
+use crate::{records_len, Directory, Reading, Record, Refusal, RefusalKind, LIMIT, ROW_WIDTH};
 use std::fmt;
 
 /// How many numbers a table needs at most for a reading of these bytes: those of a row for each
@@ -19,6 +20,9 @@ pub const fn table_len(bytes: &[u8]) -> usize {
 /// nearly all tags or flags come to. A row takes four times [`ROW_WIDTH`] bytes. Where that is too
 /// much memory, lend a table to [`read_section`] instead, which gives refusal 13 if it is too small.
 ///
+/// For [`read_directory`](Self::read_directory) it also holds a list of [`records_len`] records,
+/// which take no more bytes than the section has.
+///
 /// [`read_section`]: crate::read_section
 ///
 /// ```
@@ -32,6 +36,7 @@ pub const fn table_len(bytes: &[u8]) -> usize {
 #[derive(Default)]
 pub struct Table {
     numbers: Vec<u32>,
+    records: Vec<Record>,
 }
 
 impl Table {
@@ -39,6 +44,7 @@ impl Table {
     pub const fn new() -> Table {
         Table {
             numbers: Vec::new(),
+            records: Vec::new(),
         }
     }
 
@@ -49,6 +55,18 @@ impl Table {
     /// [`Refusal`]s 1 to 12.
     pub fn read_section<'b>(&mut self, bytes: &'b [u8]) -> Result<Reading<'b, '_>, Refusal> {
         self.read(Form::Section, bytes)
+    }
+
+    /// Reads a whole section and its directory, as [`read_directory`](crate::read_directory) does.
+    ///
+    /// # Errors
+    ///
+    /// [`Refusal`]s 1 to 12.
+    pub fn read_directory<'b>(&mut self, bytes: &'b [u8]) -> Result<Directory<'b, '_>, Refusal> {
+        let Table { numbers, records } = self;
+        let list = lend(records, records_len(readable(bytes)));
+        let counts = grow(numbers, bytes, |table| directory::fill(bytes, table, list))?;
+        Ok(Directory::new(bytes, numbers, records, counts))
     }
 
     /// Reads one payload, as [`read_payload`](crate::read_payload) does.
@@ -79,42 +97,61 @@ impl Table {
     }
 
     fn read<'b>(&mut self, form: Form, bytes: &'b [u8]) -> Result<Reading<'b, '_>, Refusal> {
-        // With a row for each byte 13 is never given, and bytes above the limit are not read.
-        let most = if bytes.len() > LIMIT { 0 } else { bytes.len() };
-        let guess = most.min(1024).max(most / 8);
-        let mut rows = guess.max(self.numbers.len() / ROW_WIDTH).min(most);
-        loop {
-            let table = self.lend(rows * ROW_WIDTH);
-            match fill(form, bytes, table) {
-                Ok(counts) => return Ok(Reading::new(bytes, &self.numbers, counts)),
-                Err(refusal) if too_small(refusal) && rows < most => {
-                    rows = (2 * rows).min(most);
-                }
-                Err(refusal) => return Err(refusal),
-            }
-        }
+        let fill = |table: &mut [u32]| reading::fill(form, bytes, table);
+        let counts = grow(&mut self.numbers, bytes, fill)?;
+        Ok(Reading::new(bytes, &self.numbers, counts))
     }
+}
 
-    /// This many numbers of the table.
-    fn lend(&mut self, len: usize) -> &mut [u32] {
-        if self.numbers.len() < len {
-            // The old numbers are not kept: their memory is given back first.
-            self.numbers = Vec::new();
-            self.numbers = vec![0; len];
-        }
-        &mut self.numbers[..len]
+/// The bytes, but none if there are more than the limit: these are not read.
+fn readable(bytes: &[u8]) -> &[u8] {
+    if bytes.len() > LIMIT {
+        &[]
+    } else {
+        bytes
     }
+}
+
+/// Fills a table with the rows of these bytes, as often as it takes to make it large enough.
+fn grow(
+    numbers: &mut Vec<u32>,
+    bytes: &[u8],
+    mut fill: impl FnMut(&mut [u32]) -> Result<Counts, Refusal>,
+) -> Result<Counts, Refusal> {
+    // With a row for each byte 13 is never given.
+    let most = readable(bytes).len();
+    let guess = most.min(1024).max(most / 8);
+    let mut rows = guess.max(numbers.len() / ROW_WIDTH).min(most);
+    loop {
+        match fill(lend(numbers, rows * ROW_WIDTH)) {
+            Err(refusal) if too_small(refusal) && rows < most => {
+                rows = (2 * rows).min(most);
+            }
+            answer => return answer,
+        }
+    }
+}
+
+/// This many of the items.
+fn lend<T: Clone + Default>(items: &mut Vec<T>, len: usize) -> &mut [T] {
+    if items.len() < len {
+        // The old items are not kept: their memory is given back first.
+        *items = Vec::new();
+        *items = vec![T::default(); len];
+    }
+    &mut items[..len]
 }
 
 fn too_small(refusal: Refusal) -> bool {
     refusal.kind() == Some(RefusalKind::TableTooSmall)
 }
 
-/// Shows how many rows the table has.
+/// Shows how many rows the table has, and how many records the list.
 impl fmt::Debug for Table {
     fn fmt(&self, f: &mut fmt::Formatter<'_>) -> fmt::Result {
         f.debug_struct("Table")
             .field("rows", &(self.numbers.len() / ROW_WIDTH))
+            .field("records", &self.records.len())
             .finish()
     }
 }
@@ -122,6 +159,7 @@ impl fmt::Debug for Table {
 #[cfg(test)]
 mod tests {
     use super::{Table, LIMIT, ROW_WIDTH};
+    use std::mem::size_of_val;
 
     #[test]
     fn little_for_texts() {
@@ -156,5 +194,19 @@ mod tests {
         let refusal = table.read_section(&vec![0; LIMIT + 1]).unwrap_err();
         assert_eq!(refusal.number(), 1);
         assert_eq!(table.numbers.capacity(), 0);
+        let refusal = table.read_directory(&vec![0; LIMIT + 1]).unwrap_err();
+        assert_eq!(refusal.number(), 1);
+        assert_eq!(table.numbers.capacity(), 0);
+        assert_eq!(table.records.capacity(), 0);
+    }
+
+    #[test]
+    fn records_for_directories_alone() {
+        let section = [&[17, 0, 0, 0, 1][..], &[0; 16]].concat().repeat(1000);
+        let mut table = Table::new();
+        assert_eq!(table.read_section(&section).unwrap().entities().len(), 1000);
+        assert_eq!(table.records.capacity(), 0);
+        assert_eq!(table.read_directory(&section).unwrap().len(), 1000);
+        assert!(size_of_val(&table.records[..]) <= section.len());
     }
 }

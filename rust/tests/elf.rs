@@ -5,7 +5,9 @@
 mod list;
 
 use pgrxsc::builder::{Builder, Function, Schema};
-use pgrxsc::{find_section, read_section, Refusal, RefusalKind, Table, ELF_SECTION_NAME, LIMIT};
+use pgrxsc::{
+    find_section, read_section, section_range, Refusal, RefusalKind, Table, ELF_SECTION_NAME, LIMIT,
+};
 use std::ops::Range;
 
 const EIGHTEEN: Refusal = Refusal::new(18, 0);
@@ -446,6 +448,43 @@ fn schema_sections() {
     let found = bad.find(ELF_SECTION_NAME).unwrap();
     let refusal = table.read_section(found).unwrap_err();
     assert_eq!(refusal, Refusal::new(8, 4));
+}
+
+#[test]
+fn ranges_of_sections() {
+    let elf = Elf::new(&[(".text", PROGBITS, b"code"), (".empty", PROGBITS, b"")]);
+    assert_eq!(section_range(&elf.bytes, ".text"), Ok(64..68));
+    assert_eq!(section_range(&elf.bytes, ".empty"), Ok(68..68));
+    assert_eq!(section_range(&elf.bytes, ".data"), Err(TWENTY));
+    assert_eq!(section_range(&elf.bytes[..63], ".text"), Err(EIGHTEEN));
+    let outside = elf.with(elf.header(1, OFFSET), u64::MAX);
+    assert_eq!(section_range(&outside.bytes, ".text"), Err(NINETEEN));
+}
+
+/// Positions in a file, as a linker map has them.
+#[test]
+fn positions_in_files() {
+    let section = section();
+    let elf = Elf::new(&[
+        (".text", PROGBITS, b"code"),
+        (ELF_SECTION_NAME, PROGBITS, &section),
+    ]);
+    let range = section_range(&elf.bytes, ELF_SECTION_NAME).unwrap();
+    assert_eq!(range, 68..68 + section.len());
+    let mut table = Table::new();
+    let directory = table.read_directory(&elf.bytes[range.clone()]).unwrap();
+    // The schema has 17 bytes and its name, after the four of its length.
+    let function = range.start + 24;
+    for position in 0..elf.bytes.len() {
+        let inside = position.checked_sub(range.start);
+        let found = inside.and_then(|inside| directory.at(inside as u64));
+        let expected = match position {
+            _ if !range.contains(&position) => None,
+            _ if position < function => Some(0),
+            _ => Some(1),
+        };
+        assert_eq!(found.map(|(index, _)| index), expected, "{position}");
+    }
 }
 
 /// The limit is one for sections, not for files.

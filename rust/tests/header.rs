@@ -1,10 +1,12 @@
 //! The crate beside `include/pgrxsc.h`: the same constants, and the same functions.
 
 use pgrxsc::{
-    EntityKind, RefusalKind, Sort, ELF_SECTION_NAME, LIMIT, ROW_WIDTH, SQL_TEXT_SIZE, VERSION,
+    EntityKind, Record, RefusalKind, Sort, ELF_SECTION_NAME, LIMIT, ROW_WIDTH, SQL_TEXT_SIZE,
+    VERSION,
 };
 use std::collections::{BTreeMap, BTreeSet};
 use std::fmt::Debug;
+use std::mem::{align_of, size_of};
 
 const HEADER: &str = include_str!("../../include/pgrxsc.h");
 const FFI: &str = include_str!("../src/ffi.rs");
@@ -42,7 +44,7 @@ fn numbered() -> BTreeMap<String, u64> {
 #[test]
 fn constants() {
     let mut expected = numbered();
-    assert_eq!(expected.len(), 6 + 9 + 20);
+    assert_eq!(expected.len(), 6 + 9 + 21);
     expected.insert("PGRXSC_VERSION".into(), VERSION.into());
     expected.insert("PGRXSC_LIMIT".into(), LIMIT as u64);
     expected.insert("PGRXSC_ROW_WIDTH".into(), ROW_WIDTH as u64);
@@ -90,6 +92,36 @@ fn tables() {
         );
         assert!(places.next().is_none(), "{constant}");
     }
+}
+
+/// A record is laid out as the header's struct: the same fields of 32 bits, one after another.
+#[test]
+fn records() {
+    let (_, fields) = HEADER.split_once("struct pgrxsc_record {\n").unwrap();
+    let (fields, _) = fields.split_once("};").unwrap();
+    let names = fields.lines().map(|line| {
+        let (name, _) = line
+            .strip_prefix("    uint32_t ")
+            .and_then(|line| line.split_once(';'))
+            .unwrap();
+        name
+    });
+    let names: Vec<&str> = names.collect();
+
+    let record = Record::default();
+    let fields = [
+        ("kind", &record.kind),
+        ("start", &record.start),
+        ("length", &record.length),
+        ("first_row", &record.first_row),
+        ("row_count", &record.row_count),
+    ];
+    assert_eq!(names, fields.map(|(name, _)| name));
+    let start = &record as *const Record as usize;
+    let offsets = fields.map(|(_, field)| field as *const u32 as usize - start);
+    assert_eq!(offsets, [0, 4, 8, 12, 16]);
+    assert_eq!(size_of::<Record>(), 20);
+    assert_eq!(align_of::<Record>(), align_of::<u32>());
 }
 
 /// The names that stand before a parenthesis.

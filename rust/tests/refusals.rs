@@ -4,15 +4,18 @@ mod common;
 
 use common::{custom_sql, entry, function, hex, schema};
 use pgrxsc::{
-    path_repeats, read_mapping, read_payload, read_section, Refusal, RefusalKind, Table, LIMIT,
+    entity_at, path_repeats, read_mapping, read_payload, read_section, Refusal, RefusalKind, Table,
+    LIMIT,
 };
 use std::collections::HashSet;
 use std::error::Error;
 
 fn section_refusal(section: &[u8]) -> (u32, usize) {
     let refusal = Table::new().read_section(section).unwrap_err();
-    // A report on paths has the same refusals.
+    // A report on paths has the same refusals, and so have a directory and what holds a position.
     assert_eq!(path_repeats(section), Err(refusal));
+    assert_eq!(entity_at(section, 0), Err(refusal));
+    assert_eq!(Table::new().read_directory(section).unwrap_err(), refusal);
     (refusal.number(), refusal.place())
 }
 
@@ -123,7 +126,12 @@ fn sentences() {
         (
             21,
             0,
-            "the reason at byte 0 is one that this crate does not know (refusal 21)",
+            "the list has fewer records than the section has entities (refusal 21)",
+        ),
+        (
+            22,
+            0,
+            "the reason at byte 0 is one that this crate does not know (refusal 22)",
         ),
     ] {
         assert_eq!(Refusal::new(number, place).to_string(), sentence);
@@ -133,7 +141,7 @@ fn sentences() {
 #[test]
 fn a_sentence_for_each() {
     let mut sentences = HashSet::new();
-    for number in 1..=20 {
+    for number in 1..=21 {
         let refusal = Refusal::new(number, 98765);
         let sentence = refusal.to_string();
         let reason = sentence
@@ -149,17 +157,17 @@ fn a_sentence_for_each() {
         );
         sentences.insert(reason.to_string());
     }
-    assert_eq!(sentences.len(), 20);
+    assert_eq!(sentences.len(), 21);
 }
 
 #[test]
 fn names() {
-    for number in 1..=20 {
+    for number in 1..=21 {
         let kind = Refusal::new(number, 5).kind().unwrap();
         assert_eq!(kind.number(), number);
         assert_eq!(RefusalKind::from_number(number), Some(kind));
     }
-    for number in [0, 21, u32::MAX] {
+    for number in [0, 22, u32::MAX] {
         assert_eq!(RefusalKind::from_number(number), None);
         assert_eq!(Refusal::new(number, 5).kind(), None);
     }

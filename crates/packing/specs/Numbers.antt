@@ -7,6 +7,9 @@ use lib.ListN.{getD}
 use Rattle.layout.specs.Answers.{Answer, Result}
 use Rattle.layout.specs.Reading.{Outcome, ok, refuse}
 use Rattle.table.specs.Answers.{Total, counted, uncounted}
+use Rattle.directory.specs.Directory.{Listed}
+use Rattle.directory.specs.Holder.{ByteHolder, holder, unheld, unread}
+use Rattle.directory.specs.declared.Record.{Record}
 use Rattle.parts.specs.Names.{SqlStart, startsAt, notUtf8}
 use Rattle.sql_text.specs.SqlText.{SqlAnswer}
 
@@ -31,6 +34,21 @@ answerIn ns = record {
 -- And with the table, the result of a reading
 abbrev pub resultIn : (numbers table : List ℕ) → Result
 resultIn ns table = record { answer = answerIn ns; table = table }
+
+-- And with the table and the list, the result of a reading with a directory
+abbrev pub listedIn : (numbers table : List ℕ) → List Record → Listed
+listedIn ns table list = record { result = resultIn ns table; list = list }
+
+-- What holds a byte: 1 and the index of the entity; or 0 and 0
+abbrev pub holderNumbers : ByteHolder → List ℕ
+holderNumbers (holder index) = 0 ∷ 0 ∷ 1 ∷ index ∷ []
+holderNumbers unheld = 0 ∷ 0 ∷ 0 ∷ 0 ∷ []
+holderNumbers (unread number place) = refusalNumbers number place
+
+-- What four numbers tell of it
+abbrev pub holderTold : List ℕ → ByteHolder
+holderTold ns =
+    cond (eqb (getD ns 0 0) 0) (cond (eqb (getD ns 2 0) 1) (holder (getD ns 3 0)) unheld) (unread (getD ns 0 0) (getD ns 1 0))
 
 -- A part of the bytes, from its start up to its end: its start and its length
 abbrev pub partNumbers : Outcome ℕ ℕ → List ℕ

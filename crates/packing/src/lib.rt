@@ -1,4 +1,5 @@
 // How an answer is packed into four numbers: a refusal's number and place, or 0 and 0; then what is answered, or 0 and 0.
+use directory::Holder;
 use length::Length;
 use parts::NameStart;
 use paths::PathReport;
@@ -8,12 +9,13 @@ use table::Answer;
 use table::Refusal;
 ghost use mathlib.Core.Path.{_≡_};
 ghost use Rattle.table.specs.Answers.{answerOf};
+ghost use Rattle.directory.specs.Holder.{holderOf};
 ghost use Rattle.place.specs.Place.{foundPart};
 ghost use Rattle.parts.specs.Names.{startOf};
 ghost use Rattle.sql_text.specs.SqlText.{sqlAnswerOf};
 ghost use Rattle.length.specs.Length.{lengthOf};
 ghost use Rattle.paths.specs.Paths.{reportOf};
-ghost use Rattle.packing.specs.Numbers.{refusalNumbers, answerNumbers, partNumbers, placeNumbers, inBuffer, lengthNumbers, reportNumbers, pairsIn, startNumbers};
+ghost use Rattle.packing.specs.Numbers.{refusalNumbers, answerNumbers, holderNumbers, partNumbers, placeNumbers, inBuffer, lengthNumbers, reportNumbers, pairsIn, startNumbers};
 
 // What a reading answers, as numbers.
 pub fn answer_numbers(answer: Answer) -> [u64; 4]
@@ -30,6 +32,17 @@ pub fn refusal_numbers(refusal: Refusal) -> [u64; 4]
     ensures { λ r. ⌜ r ≡ refusalNumbers (refusal .number) (refusal .place) ⌝ }
 {
     [refusal.number as u64, refusal.place as u64, 0, 0]
+}
+
+// What holds a byte, as an answer.
+pub fn holder_numbers(holder: Holder) -> [u64; 4]
+    ensures { λ r. ⌜ r ≡ holderNumbers (holderOf holder) ⌝ }
+{
+    match holder {
+        Holder::Entity { index } => [0, 0, 1, index as u64],
+        Holder::Nothing => [0, 0, 0, 0],
+        Holder::Refused(refusal) => refusal_numbers(refusal),
+    }
 }
 
 // A part of the bytes, as an answer.

@@ -1,4 +1,4 @@
--- What four numbers tell of a section that is found, a reading, a measuring, a writing, a path report and a start.
+-- What four numbers tell of a section that is found, a reading, a directory, a holder, a measuring, a writing, a path report and a start.
 use Prim.Native.Nat.{ℕ, _+_, _-_}
 use native.Mathlib.Omega.{arith}
 use mathlib.Core.Bool.{Bool}
@@ -17,12 +17,16 @@ use Rattle.section.specs.Section.{reading}
 use Rattle.section.specs.Demand3.{Demand3}
 use Rattle.section.proofs.Demand3.{reading-meets, reading-told, refusal-numbered}
 use Rattle.table.specs.Answers.{answerOf, resultOf, Total, counted, uncounted}
+use Rattle.directory.specs.Directory.{Listed, directory, listedOf}
+use Rattle.directory.specs.Holder.{ByteHolder}
+use Rattle.directory.specs.Exact.{ExactDirectory, ExactHolder, in-entry, in-none, not-read}
+use Rattle.directory.specs.declared.Record.{Record}
 use Rattle.elf.specs.Elf.{sh-offset, ofHeader, sectionEnd}
 use Rattle.elf.specs.Finding.{ExactFinding, other-file, no-tables, no-match, no-bytes, past-end, found}
 use Rattle.entry_writer.specs.Refusals.{Form, WriteRefusal, not-spelled, bad-text, too-long, no-space}
 use Rattle.parts.specs.Names.{SqlStart, startsAt, notUtf8, ExactStart}
 use Rattle.paths.specs.Repeats.{ExactReport}
-use Rattle.packing.specs.Numbers.{answerNumbers, answerIn, resultIn, partNumbers, partTold, lengthNumbers, totalTold, lengthTold, reportNumbers, pairsIn, startNumbers, startTold}
+use Rattle.packing.specs.Numbers.{answerNumbers, answerIn, resultIn, listedIn, holderNumbers, holderTold, partNumbers, partTold, lengthNumbers, totalTold, lengthTold, reportNumbers, pairsIn, startNumbers, startTold}
 use Rattle.table.specs.declared.Answer as declared
 
 -- The numbers of an answer that its number tells, tell that answer
@@ -100,3 +104,32 @@ finding-in {file} (found a b {i} f t h) =
 -- So its contract holds of what the numbers tell
 pub finding-told : (file name numbers : List ℕ) (o : Outcome ℕ ℕ) → numbers ≡ partNumbers o → ExactFinding file name o → ExactFinding file name (partTold numbers)
 finding-told file name numbers o e x = rw (e, finding-in x) x
+
+-- The numbers of what holds a byte tell it
+holder-in : {s : List ℕ} {position : ℕ} {h : ByteHolder} → ExactHolder s position h → holderTold (holderNumbers h) ≡ h
+holder-in (in-entry d g e c) = refl
+holder-in (in-none d g n) = refl
+holder-in {s} (not-read {n} {p} r) = rw (ne-eqb n 0 (λ z. omega (arith, z, refusal-numbered s n p r)))
+
+-- So its contract holds of what the numbers tell
+pub holder-told : (s : List ℕ) (position : ℕ) (numbers : List ℕ) (h : ByteHolder) → numbers ≡ holderNumbers h → ExactHolder s position h → ExactHolder s position (holderTold numbers)
+holder-told s position numbers h e x = rw (e, holder-in x) x
+
+-- A reading with a directory: its answer in numbers, its table and its list; and its contract holds of what they tell
+pub record DirectoryTold (s lent : List ℕ) (before : List Record) (numbers table : List ℕ) (after : List Record) : Type 0 where
+  pub answer : numbers ≡ answerNumbers (directory s lent before .result .answer)
+  pub table-is : table ≡ directory s lent before .result .table
+  pub list-is : after ≡ directory s lent before .list
+  pub exact : ExactDirectory s lent before (listedIn numbers table after)
+
+pub directory-told : (s lent : List ℕ) (before : List Record) (numbers : List ℕ) (a : declared.Answer) (table : List ℕ) (after : List Record) → numbers ≡ answerNumbers (answerOf a)
+    → listedOf a table after ≡ directory s lent before → ExactDirectory s lent before (listedOf a table after) → DirectoryTold s lent before numbers table after
+directory-told s lent before numbers a table after e q x =
+    let k : answerIn numbers ≡ answerOf a = ap answerIn e ∙ in-numbers (answerOf a) (x .numbered) in
+    let same : listedOf a table after ≡ listedIn numbers table after = ap (λ (y : Answer). record { result = record { answer = y; table = table }; list = after }) (sym k) in
+    record {
+      answer = e ∙ ap (λ (y : Listed). answerNumbers (y .result .answer)) q;
+      table-is = ap (λ (y : Listed). y .result .table) q;
+      list-is = ap (λ (y : Listed). y .list) q;
+      exact = subst (ExactDirectory s lent before) same x;
+    }

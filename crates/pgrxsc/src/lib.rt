@@ -1,5 +1,7 @@
 // The functions that programs in other languages call. Each hands its work on and adds nothing but the packing of the answer:
 // four numbers, of which the first two are a refusal's number and place, or 0 and 0.
+use directory::Record;
+use table::Answer;
 use table::Row;
 ghost use mathlib.Core.Bool.{true};
 ghost use mathlib.Core.Logic.{_↔_};
@@ -10,8 +12,12 @@ ghost use Rattle.text.specs.Walk.{utf8};
 ghost use Rattle.layout.specs.Entities.{Entity, SqlMapping, FunctionMetadataType};
 ghost use Rattle.layout.specs.Alone.{ExactAlone};
 ghost use Rattle.layout.specs.ReadAlone.{readingAlone};
+ghost use Rattle.table.specs.Answers.{answerOf};
 ghost use Rattle.section.specs.Section.{reading};
 ghost use Rattle.section.specs.Demand3.{Demand3};
+ghost use Rattle.directory.specs.Directory.{directory};
+ghost use Rattle.directory.specs.Holder.{entityAt};
+ghost use Rattle.directory.specs.Exact.{ExactDirectory, ExactHolder};
 ghost use Rattle.elf.specs.Finding.{ExactFinding};
 ghost use Rattle.elf.specs.Find.{findSection};
 ghost use Rattle.parts.specs.Parts.{rowText, sqlNameIn};
@@ -24,7 +30,7 @@ ghost use Rattle.entry_writer.specs.Refusals.{alone, ExactLength, ExactWriting}
 ghost use Rattle.section_writer.specs.Form.{section};
 ghost use Rattle.section_writer.specs.Writing.{measuredSection, writeSection};
 ghost use Rattle.pgrxsc.specs.Version.{version};
-ghost use Rattle.packing.specs.Numbers.{answerNumbers, resultIn, partNumbers, partTold, placeNumbers, inBuffer, lengthNumbers, lengthTold, reportNumbers, pairsIn, totalTold, startNumbers, startTold};
+ghost use Rattle.packing.specs.Numbers.{answerNumbers, resultIn, listedIn, holderNumbers, holderTold, partNumbers, partTold, placeNumbers, inBuffer, lengthNumbers, lengthTold, reportNumbers, pairsIn, totalTold, startNumbers, startTold};
 
 // The version of these functions, which include/pgrxsc.h has as PGRXSC_VERSION.
 const VERSION: u32 = 2;
@@ -56,7 +62,41 @@ pub extern "C" fn pgrxsc_read_section(bytes: &[u8], table: &mut [u32], answer: &
     *answer = packing::answer_numbers(section::decode_entities(bytes, table));
 }
 
-// The same for one payload alone.
+// The same with a directory: a record for each entity, at the start of the lent list.
+#[no_mangle]
+pub extern "C" fn pgrxsc_read_directory(
+    bytes: &[u8],
+    table: &mut [u32],
+    records: &mut [Record],
+    answer: &mut [u64; 4],
+)
+    ensures { λ r. ⌜ now (answer .exit) ≡ answerNumbers (directory (now (bytes .entry)) (now (table .entry)) (now (records .entry)) .result .answer) ⌝ }
+    ensures { λ r. ⌜ now (table .exit) ≡ directory (now (bytes .entry)) (now (table .entry)) (now (records .entry)) .result .table ⌝ }
+    ensures { λ r. ⌜ now (records .exit) ≡ directory (now (bytes .entry)) (now (table .entry)) (now (records .entry)) .list ⌝ }
+    ensures { λ r. ⌜ ExactDirectory (now (bytes .entry)) (now (table .entry)) (now (records .entry)) (listedIn (now (answer .exit)) (now (table .exit)) (now (records .exit))) ⌝ }
+{
+    let read = directory::decode_directory(bytes, table, records);
+    store(read, answer);
+}
+
+// Stores the answer of a reading, as numbers.
+fn store(read: Answer, answer: &mut [u64; 4])
+    ensures { λ r. ⌜ now (answer .exit) ≡ answerNumbers (answerOf read) ⌝ }
+{
+    *answer = packing::answer_numbers(read);
+}
+
+// What holds the byte at a position of a section. The third number is 1 if an entity's entry contains it, else 0; the fourth is the
+// index of the entity.
+#[no_mangle]
+pub extern "C" fn pgrxsc_entity_at(bytes: &[u8], position: u64, answer: &mut [u64; 4])
+    ensures { λ r. ⌜ now (answer .exit) ≡ holderNumbers (entityAt (now (bytes .entry)) position) ⌝ }
+    ensures { λ r. ⌜ ExactHolder (now (bytes .entry)) position (holderTold (now (answer .exit))) ⌝ }
+{
+    *answer = packing::holder_numbers(directory::entity_at(bytes, position));
+}
+
+// Reads one payload alone.
 #[no_mangle]
 pub extern "C" fn pgrxsc_read_payload(bytes: &[u8], table: &mut [u32], answer: &mut [u64; 4])
     ensures { λ r. ⌜ now (answer .exit) ≡ answerNumbers (readingAlone Entity 1 (now (bytes .entry)) (now (table .entry)) .answer) ⌝ }

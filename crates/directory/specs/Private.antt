@@ -1,0 +1,88 @@
+-- What only the private functions of the crate promise one another. No public contract cites anything here.
+use Prim.Native.Nat.{ℕ, zero, suc, _+_, _-_, _≤_, _<_}
+use mathlib.Core.List.{List, [], _∷_}
+use mathlib.Core.Path.{_≡_}
+use lib.ListN.{length, set}
+use Rattle.layout.specs.Written.{bytesOf, sortNumber}
+use Rattle.layout.specs.Layout.{Kind}
+use Rattle.layout.specs.Entities.{valueIn}
+use Rattle.layout.specs.Answers.{limit}
+use Rattle.layout.specs.Theorems.{Bytes}
+use Rattle.bytes.specs.Bytes.{numberOr0}
+use Rattle.table.specs.Table.{rowOf}
+use Rattle.table.specs.declared.Answer.the-variants.{Accepted, Refused}
+use Rattle.section.specs.Derivation.{Placed, placed}
+use Rattle.section.specs.Rest.{Rest}
+use Rattle.directory.specs.declared.Record.{Record}
+use Rattle.directory.specs.Directory.{recordOf, recordsFrom, directoryOf}
+use Rattle.directory.specs.Holder.{ByteHolder, holder, unheld, holderFrom}
+use Rattle.table.specs.declared.Answer as declared
+
+-- h is what holds a position of a derived section
+abbrev pub Holds : List ℕ → (position : ℕ) → ByteHolder → Type 0
+Holds s position h = (w : Rest s 0) → h ≡ holderFrom 0 (recordsFrom 0 (placed 0 (w .derivation .items))) position
+
+-- What holds a byte of an entry, by the first byte of its payload, which is 0 for the sentinel alone
+abbrev pub holderBy : (kind index : ℕ) → ByteHolder
+holderBy zero index = unheld
+holderBy (suc kind) index = holder index
+
+-- The index of the next entity after such an entry
+abbrev pub indexAfter : (kind index : ℕ) → ℕ
+indexAfter zero index = index
+indexAfter (suc kind) index = index + 1
+
+-- The rows from one on up to another have leaves that are no kinds, and that other has a kind or no leaf
+pub record NextKind (t : List ℕ) (from to : ℕ) : Type 0 where
+  pub low : from ≤ to
+  pub others : (row : ℕ) → from ≤ row → row < to → sortNumber Kind < rowOf t row .sort
+  pub stops : rowOf t to .sort ≤ sortNumber Kind
+
+-- An entity whose entry is in s, and whose rows are in t from a row on
+pub record EntityIn (s t : List ℕ) (row : ℕ) (e : Placed) : Type 0 where
+  pub begins : 4 ≤ e .at
+  pub ends : e .at + length (bytesOf (e .content)) ≤ limit
+  pub size : numberOr0 s (e .at - 4) ≡ length (bytesOf (e .content))
+  pub few : row + length (e .content) ≤ limit
+  pub kind : rowOf t row ≡ record { sort = sortNumber Kind; offset = e .at; value = valueIn (e .content) 0 }
+  pub others : NextKind t (row + 1) (row + length (e .content))
+
+-- The first row after those of a record
+abbrev pub rowAfter : Record → ℕ
+rowAfter r = r .«first_row» + r .«row_count»
+
+-- After the rows of a record come those of an entity
+pub record Between (s t : List ℕ) (r : Record) : Type 0 where
+  pub next : Placed
+  pub there : EntityIn s t (rowAfter r) next
+
+-- n is the record of that entity
+abbrev pub After : (s t : List ℕ) (r n : Record) → Type 0
+After s t r n = (b : Between s t r) → n ≡ recordOf (rowAfter r) (b .next)
+
+-- What stands before the first record
+abbrev pub zeros : Record
+zeros = record { kind = 0; start = 0; length = 0; «first_row» = 0; «row_count» = 0 }
+
+-- The record before the one at an index, with r before the first
+abbrev pub recordBefore : (r : Record) → List Record → (index : ℕ) → Record
+recordBefore r rs zero = r
+recordBefore r [] (suc i) = r
+recordBefore r (x ∷ rs) (suc i) = recordBefore x rs i
+
+-- A lent list with the first n of some records at its start
+abbrev pub put : (records : List Record) → (n : ℕ) → (list : List Record) → List Record
+put rs zero list = list
+put rs (suc n) list = set (put rs n list) n (recordBefore zeros rs (suc n))
+
+-- The first n records of a section can be found one after the other, and there is room for them
+pub record Ready (s t : List ℕ) (n room : ℕ) : Type 0 where
+  pub bytes : Bytes s
+  pub fits : n ≤ room
+  pub between : (i : ℕ) → i < n → Between s t (recordBefore zeros (directoryOf s) i)
+  pub next : (i : ℕ) → i < n → (x : Record) → After s t (recordBefore zeros (directoryOf s) i) x → x ≡ recordBefore zeros (directoryOf s) (i + 1)
+
+-- The number of entities of the code's answer, 0 after a refusal
+abbrev pub entityCount : declared.Answer → ℕ
+entityCount (Accepted entities rows) = entities
+entityCount (Refused refusal) = 0

@@ -93,8 +93,8 @@ module _ (d : Derivation) (list : List Record) (k : gives d .entities ≤ length
     same-length = omega (arith, length-append rs (drop (length rs) list), length-drop (length rs) list, count);
     records = λ index e other. List·getD-append rs (drop (length rs) list) other index (omega (arith, count, index-below (d .items) e)) ∙ record-with d e other;
     beyond = λ index h other.
-      let i : (i : ℕ) × (index ≡ length rs + i) = (index - length rs, omega (arith, count)) in
-      rw (i .1) (getD-append-add rs (drop (length rs) list) (i .0) other ∙ getD-drop (length rs) list (i .0) other);
+        let i : (i : ℕ) × (index ≡ length rs + i) = (index - length rs, omega (arith, count)) in
+        rw (i .1) (getD-append-add rs (drop (length rs) list) (i .0) other ∙ getD-drop (length rs) list (i .0) other);
   }
 
   -- And no other list has

@@ -55,7 +55,7 @@ use Rattle.directory.specs.Exact.{ExactDirectory}
 use Rattle.directory.specs.Private.{put, Ready, entityCount}
 use Rattle.directory.specs.declared.Record.{Record}
 use Rattle.directory.proofs.Record as T
-use Rattle.directory.proofs.Steps.{says-both}
+use Rattle.directory.proofs.Steps.{says-all, known, and}
 use Rattle.directory.proofs.Listed.{listed}
 use Rattle.directory.proofs.Exact.{directory-exact}
 use Rattle.directory.proofs.read_for as read-for
@@ -164,18 +164,18 @@ module _ {M : Type 1} (𝓤 : URA M) (H : Heap 𝓤) (A : Atoms 𝓤) (W : Given
   ent-said : (r : Answer) (n : ℕ) → ent 𝓤 (ensured 𝓤 H A entity-count.ended (entity-count.clauses 𝓤 H A memo run) tt (r, tt) tt n) (fact 𝓤 (n ≡ entityCount r))
   ent-said r n = exE 𝓤 _ (λ ws. snd∗ 𝓤 (sem 𝓤 H A (lasts entity-count.ended tt (r, tt) ws)) (fact 𝓤 (n ≡ entityCount r)))
 
-  told : (t : List ℕ) (r : Answer) (l : List Record) → Bytes (y₁ .now) → listedOf r t l ≡ directory (y₁ .now) ts (y₃ .now)
+  both : (t : List ℕ) (r : Answer) (l : List Record) → Bytes (y₁ .now) → listedOf r t l ≡ directory (y₁ .now) ts (y₃ .now)
       → (listedOf r t l ≡ directory (y₁ .now) ts (y₃ .now)) × ExactDirectory (y₁ .now) ts (y₃ .now) (listedOf r t l)
-  told t r l u e = (e, directory-exact (y₁ .now) u ts (y₃ .now) (listedOf r t l) .1 e)
+  both t r l u e = (e, directory-exact (y₁ .now) u ts (y₃ .now) (listedOf r t l) .1 e)
 
   -- the end, with the answer r, the table t and the list zs
-  module _ (r : Answer) (w : Val) (is : Is N.the-row r (w ∷ [])) (t : List ℕ) (l : length t ≡ length ts) (zs : List Record) (l₃ : length zs ≡ length (y₃ .now)) (known : (listedOf r t zs ≡ directory (y₁ .now) ts (y₃ .now)) × ExactDirectory (y₁ .now) ts (y₃ .now) (listedOf r t zs)) where
+  module _ (r : Answer) (w : Val) (is : Is N.the-row r (w ∷ [])) (t : List ℕ) (l : length t ≡ length ts) (zs : List Record) (l₃ : length zs ≡ length (y₃ .now)) (told : (listedOf r t zs ≡ directory (y₁ .now) ts (y₃ .now)) × ExactDirectory (y₁ .now) ts (y₃ .now) (listedOf r t zs)) where
     abbrev Kept : List (Item 𝓤)
     Kept = ‵ (fobs γ (codedHoleys u32 .code (heres u32 t))) ∷ ‵ (fbor κ₂ (Held u32 (length t) b o γ)) ∷ ‵ (flft κ₂ q₂) ∷ ‵ (flft κ₁ q₁) ∷ ‵ (flft κ₃ q₃) ∷ ‵ (finally T.the-row (y₃ .name) zs) ∷ ‵ Own₁ ∷ []
 
     exits : ent 𝓤 (⋆ 𝓤 H A Kept) (Post w)
     exits =
-        qed W Kept ∵ suffices ! _ (ends-at 𝓤 H A f.ended stayed (f.clauses 𝓤 H A memo run) W (((κ₁, (κ₂, (κ₃, tt))), (q₁, (q₂, (q₃, tt))), tt, a, vals), tt) w r (tt, (t, (zs, tt))) (tt, (l, (l₃, tt)))) $ says-both ! (known .0) (known .1) $
+        qed W Kept ∵ suffices ! _ (ends-at 𝓤 H A f.ended stayed (f.clauses 𝓤 H A memo run) W (((κ₁, (κ₂, (κ₃, tt))), (q₁, (q₂, (q₃, tt))), tt, a, vals), tt) w r (tt, (t, (zs, tt))) (tt, (l, (l₃, tt)))) $ says-all ! (and 𝓤 (known 𝓤 (told .0)) (known 𝓤 (told .1))) $
         nothing ! $ move ! (5 ∷ 0 ∷ []) $ join ! $ move ! (3 ∷ 0 ∷ []) $ join ! $ move ! (3 ∷ 0 ∷ []) $ join ! $ frame ! $ fjoin ! $
         pureI ! (at-slice u32 (x γ t) (v₂ ∷ [])) (tt, (tt, tt)) (ap (λ (m : ℕ). sliceVal (b, o) m ∷ []) (sym l), subst (Room u32) (sym l) room₂) $ fjoin ! $
         nothing ! $ move ! (2 ∷ 0 ∷ []) $ fjoin ! $ move ! (1 ∷ 0 ∷ []) $ fjoin ! $ move ! (1 ∷ 0 ∷ []) $ fjoin ! $ frame ! $
@@ -244,7 +244,7 @@ module _ {M : Type 1} (𝓤 : URA M) (H : Heap 𝓤) (A : Atoms 𝓤) (W : Given
         assigns ! (of-opd ! (load ! (from ! (stop !)) (look ! 23 refl))) (from ! (stop !)) (init ! 31 refl typed) $
         returns ! (look ! 31 refl) $ forget ! 7 refl $ forget ! 9 refl $ forget ! 11 refl $ forget ! 13 refl $ forget ! 15 refl $ forget ! 17 refl $ forget ! 19 refl $ forget ! 21 refl $ forget ! 23 refl $ forget ! 25 refl $ forget ! 27 refl $ forget ! 29 refl $ forget ! 31 refl $
         move ! (31 ∷ 32 ∷ []) $ free1 ! $ move ! (29 ∷ 30 ∷ []) $ free1 ! $ move ! (27 ∷ 28 ∷ []) $ free1 ! $ move ! (25 ∷ 26 ∷ []) $ free1 ! $ move ! (23 ∷ 24 ∷ []) $ free1 ! $ move ! (21 ∷ 22 ∷ []) $ free1 ! $ move ! (19 ∷ 20 ∷ []) $ free1 ! $ move ! (17 ∷ 18 ∷ []) $ free1 ! $ move ! (15 ∷ 16 ∷ []) $ free1 ! $ move ! (13 ∷ 14 ∷ []) $ free1 ! $ move ! (11 ∷ 12 ∷ []) $ free1 ! $ move ! (9 ∷ 10 ∷ []) $ free1 ! $ move ! (7 ∷ 8 ∷ []) $ free1 ! $ free0 ! $
-        by ! (exits r w is (us .1 .0) l (zs .1 .1 .0) m (told (us .1 .0) r (zs .1 .1 .0) (e .1 .bytes) (listed (y₁ .now) ts (y₃ .now) (us .1 .0) r (e .0) (zs .1 .1 .0) (g ∙ ap (λ (k : ℕ). put (directoryOf (y₁ .now)) k (y₃ .now)) c)))))))))))))))))))))))))))))))))))))
+        by ! (exits r w is (us .1 .0) l (zs .1 .1 .0) m (both (us .1 .0) r (zs .1 .1 .0) (e .1 .bytes) (listed (y₁ .now) ts (y₃ .now) (us .1 .0) r (e .0) (zs .1 .1 .0) (g ∙ ap (λ (k : ℕ). put (directoryOf (y₁ .now)) k (y₃ .now)) c)))))))))))))))))))))))))))))))))))))
 
 module _ {M : Type 1} (𝓤 : URA M) (H : Heap 𝓤) (A : Atoms 𝓤) (W : Given 𝓤 H A) (memo : Memory → SProp 𝓤) (run : Routine → Fun 𝓤) (𝓣 : Tables 𝓤 H) (known-read : Triple 𝓤 (𝓣 .C #directory·read-for) (Read 𝓤 H A memo run)) (known-ent : Triple 𝓤 (𝓣 .C #directory·entity-count) (Ent 𝓤 H A memo run)) (known-fill : Triple 𝓤 (𝓣 .C #directory·fill) (Fill 𝓤 H A memo run)) where
   walks : Walks 𝓤 H A f.ended stayed (WpFn 𝓤 H (𝓣 .C) (𝓣 .Λ) code.function) (f.clauses 𝓤 H A memo run)

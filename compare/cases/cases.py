@@ -30,7 +30,7 @@ from collections import Counter
 from pathlib import Path
 
 HERE = Path(__file__).resolve().parent
-ANSWERED = ("model.txt", "entities.txt", "paths.txt", "names.txt", "shared_objects.txt", "sample.txt")
+ANSWERED = ("model.txt", "entities.txt", "paths.txt", "names.txt", "shared_objects.txt", "directory.txt", "sample.txt")
 CRATE = HERE.parents[1] / "crates" / "cases"
 LINKED = CRATE.parent / "list_object"  # whose stdin is a shared object that object.py made, and whose stdout is its listing
 
@@ -38,10 +38,12 @@ READINGS = ("S", "P", "M", "G", "f")  # a section; one payload, one metadata rec
 PARTS = ("T", "N", "Q")  # a row's text, the SQL name from a row, the SQL text of a mapping
 WRITINGS = ("W", "w", "E", "e")  # a metadata record, one mapping, one payload, a section
 MEASURINGS = {"W": "V", "w": "v", "E": "Y", "e": "y"}  # the same, measured
-# F is where a shared object's section is; R is the path report; O is a section as objects; U is the text check; X is the walk over a
-# name
-LETTERS = READINGS + ("F",) + PARTS + ("R",) + WRITINGS + tuple(MEASURINGS.values()) + ("O", "U", "X")
+# F is where a shared object's section is; R is the path report; H is what holds a byte; O is a section as objects; U is the text
+# check; X is the walk over a name
+LETTERS = READINGS + ("F",) + PARTS + ("R", "H") + WRITINGS + tuple(MEASURINGS.values()) + ("O", "U", "X")
+DIRECTORY = "D"  # a reading with a directory, which the tests of the Rust crate run
 LENGTH_DIGITS = 5
+NUMBERS = 2**32
 MANY = 5461  # rows
 ROW_WIDTH = 3
 MOST_WORK = MANY * ROW_WIDTH + ROW_WIDTH - 1  # numbers
@@ -694,9 +696,19 @@ def kinds_and_paths(octets, numbers):
     return paths
 
 
+def holder(line):
+    """The case of what holds a byte."""
+    letter, field, position, verdict, *numbers = line.split(" ")
+    upper, lower = divmod(int(position), NUMBERS)
+    answer = {"entity": ["0", "0", "1", *numbers], "none": ["0"] * 4, "refuse": numbers}[verdict]
+    return f"{letter} {lower},{upper} {field} {' '.join(answer)}"
+
+
 def cases():
     for line in answered():
         letter = line[0]
+        if letter == DIRECTORY:
+            continue
         assert letter in LETTERS, line
         if letter in READINGS:
             yield from reading(line)
@@ -708,6 +720,8 @@ def cases():
             yield finding(line)
         if letter == "R":
             yield from given_report(line)
+        if letter == "H":
+            yield holder(line)
         if letter in ("T", "N"):
             yield row_part(line)
         if letter == "Q":

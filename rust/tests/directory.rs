@@ -12,6 +12,9 @@ use pgrxsc::{
     EntityKind, Record, Refusal, RefusalKind, Sort, Table, LIMIT, ROW_WIDTH,
 };
 
+/// Sections with their directories, by a model that was written apart from this project.
+const DIRECTORY: &str = include_str!("../../compare/cases/directory.txt");
+
 const THIRTEEN: Refusal = Refusal::new(13, 0);
 const TWENTY_ONE: Refusal = Refusal::new(21, 0);
 
@@ -568,4 +571,50 @@ fn directories_can_be_sent() {
     fn sent<T: Send + Sync + Copy>() {}
     sent::<Directory>();
     sent::<Record>();
+}
+
+/// The numbers of a field, of which - has none. Between two records stands /.
+fn numbers(field: &str) -> Vec<u32> {
+    let parts = field.split([',', '/']).filter(|part| *part != "-");
+    parts.map(|part| part.parse().unwrap()).collect()
+}
+
+/// The lines that begin with D of the answers that were made elsewhere: the sizes of the table and of
+/// the list, the section, and the answer. Table and list hold 7 before.
+#[test]
+fn answers_from_elsewhere() {
+    let mut lines = 0;
+    for line in DIRECTORY.lines().filter(|line| line.starts_with("D ")) {
+        let fields: Vec<_> = line.split(' ').collect();
+        let mut table = vec![7; fields[1].parse().unwrap()];
+        let mut records = vec![SEVEN; fields[2].parse().unwrap()];
+        let section = if fields[3] == "-" {
+            Vec::new()
+        } else {
+            hex(fields[3])
+        };
+        let answer = read_directory(&section, &mut table, &mut records)
+            .map(|directory| (directory.len(), directory.reading().rows().len()));
+        let parsed = |k: usize| fields[k].parse::<usize>().unwrap();
+        let mut expected_table = vec![0; table.len()];
+        let mut expected_records = vec![SEVEN; records.len()];
+        if fields[4] == "accept" {
+            assert_eq!(answer, Ok((parsed(5), parsed(6))), "{line}");
+            let rows = numbers(fields[7]);
+            expected_table[..rows.len()].copy_from_slice(&rows);
+            for (k, five) in numbers(fields[8]).chunks(5).enumerate() {
+                expected_records[k] = record(five.try_into().unwrap());
+            }
+        } else {
+            assert_eq!(
+                answer,
+                Err(Refusal::new(parsed(5) as u32, parsed(6))),
+                "{line}"
+            );
+        }
+        assert_eq!(table, expected_table, "{line}");
+        assert_eq!(records, expected_records, "{line}");
+        lines += 1;
+    }
+    assert_eq!(lines, 250);
 }

@@ -15,6 +15,9 @@
 //   the other: a text as its bytes, any other field as a number of four bytes. Or it is `refuse`.
 // - R is the path report. The number is that of the numbers lent as work. The answer is 0, 0 and how many pairs there are; or a
 //   refusal's number and place.
+// - H is what holds a byte of a section. The numbers are the position's: how many it is past a multiple of 4294967296, and which
+//   multiple that is. The answer is 0, 0, 1 and the index of the entity; or four times 0, if there is none; or a refusal's number
+//   and place.
 // - W is the writing of a metadata record, and w that of one mapping. The numbers are the destination's size, how many numbers
 //   the table has, and these; the bytes are the lent text. The answer is 0, 0 and the length, or a refusal's number and place;
 //   then the whole destination.
@@ -28,6 +31,7 @@
 //
 // A case that differs is printed, and below it what was answered. At the end stand how many cases were run and how many differ,
 // and the tally of the sections accepted and refused.
+use directory::Holder;
 use layout::ROW_WIDTH;
 use length::Length;
 use libc::STDIN_FILENO;
@@ -55,6 +59,9 @@ const MOST_NUMBERS: usize = MOST_ROWS * ROW_WIDTH + ROW_WIDTH - 1;
 
 // The most numbers of a case: two, and those of a table.
 const CASE_NUMBERS: usize = MOST_NUMBERS + 2;
+
+// How many numbers there are of four bytes.
+const NUMBERS: u64 = 4294967296;
 
 // What each number that is lent is before the call.
 const FILL: u32 = 4294967295;
@@ -444,6 +451,7 @@ fn answer_other(
         b'Q' => sql_text(numbers, s, out),
         b'O' => objects(s, out),
         b'R' => path_repeats(numbers, s, out),
+        b'H' => entity_at(numbers, s, out),
         b'W' | b'w' | b'V' | b'v' => write(letter, numbers, s, out),
         b'E' | b'e' | b'Y' | b'y' => write(letter, numbers, s, out),
         b'U' => text_check(s, out),
@@ -640,6 +648,16 @@ fn spell_report(report: PathReport, out: &mut [u8; OUT_SIZE]) -> usize {
     match report {
         PathReport::Counted { pairs } => spell_accepted(pairs, out),
         PathReport::Refused(refusal) => put_refusal(out, 0, refusal),
+    }
+}
+
+// What holds the byte at a position.
+fn entity_at(numbers: &[u32; CASE_NUMBERS], s: &[u8], out: &mut [u8; OUT_SIZE]) -> usize {
+    let position = NUMBERS * wide_number(numbers[1]) + wide_number(numbers[0]);
+    match directory::entity_at(s, position) {
+        Holder::Entity { index } => spell_counts(1, index, out),
+        Holder::Nothing => spell_counts(0, 0, out),
+        Holder::Refused(refusal) => put_refusal(out, 0, refusal),
     }
 }
 

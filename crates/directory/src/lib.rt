@@ -164,8 +164,8 @@ fn index_after(kind: u8, index: usize) -> usize
     requires { ⌜ index < 4294967296 ⌝ }
     ensures { λ r. ⌜ r ≡ indexAfter kind index ⌝ }
 {
-    if kind == 0 {
-        return index;
+    if kind != 0 {
+        return index + 1;
     }
-    index + 1
+    index
 }

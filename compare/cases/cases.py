@@ -2,11 +2,11 @@
 """Writes the cases of the crate cases: its stdin, and its stdout with the counts and the tally.
 
 Run it after a change. It takes no arguments, and prints how many cases of each letter there are. The sources are the cases below,
-with answers by the rules of docs/FORMAT.md, and seven files beside this script, whose lines README.md explains:
+with answers by the rules of docs/FORMAT.md, and eight files beside this script, whose lines README.md explains:
 
 - model.txt has answers of a model of the format that was written apart from this project and compared with the published Rust;
 - entities.txt has answers of the same model to the writing of payloads and sections, paths.txt its path reports, names.txt where SQL
-  names start, and shared_objects.txt where the sections of shared objects are;
+  names start, shared_objects.txt where the sections of shared objects are, and directory.txt which entity holds a byte;
 - sample.txt has the published Rust's own answers, as `compare/run --sample 2000 --seed 3629` prints them;
 - rfc3629.txt has byte strings and whether they are UTF-8, as rfc3629.py writes them.
 
@@ -481,6 +481,16 @@ def sorted_sections():
     yield [entity(1, b""), entity(9, b"b"), entity(1, b""), entity(9, b"a"), entity(1, b""), entity(3, b"b"), entity(1, b"")]
 
 
+# A section of two schemas, each after a sentinel, with padding; of the sentinels, the schemas and the padding the first positions and
+# the last, then positions past the end; and which entity holds them
+HELD = 2 * (entry(SENTINEL) + entry(SCHEMA_BYTES)) + "000000"
+ADDED_HOLDERS = [
+    *((0, None), (12, None), (13, 0), (16, 0), (17, 0), (33, 0)),
+    *((34, None), (46, None), (47, 1), (50, 1), (51, 1), (67, 1)),
+    *((68, None), (70, None), (71, None), (NUMBERS + 13, None), (2**64 - 1, None)),
+]
+
+
 def hexadecimal(octets):
     return octets.hex() or "-"
 
@@ -558,6 +568,8 @@ def answered():
         yield f"{letter} {hexadecimal(octets)} {sort} {offset} {value} {answer}"
     for octets, start in ADDED_NAMES:
         yield f"X {hexadecimal(octets)} {'no' if start is None else f'start {start}'}"
+    for first, index in ADDED_HOLDERS:
+        yield f"H {HELD} {first} {'none' if index is None else f'entity {index}'}"
     for numbers, text in ADDED_NUMERIC:
         yield f"Q ff03{numbers}ff 1 31 buffer 0 {len(text)} {text.hex()}{'ee' * (31 - len(text))}"
     for letter, table, text, written in ADDED_WRITES:

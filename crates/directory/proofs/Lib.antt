@@ -1,7 +1,7 @@
 pub mod Steps
 pub mod Records
 pub mod Holding
-pub mod Look
+pub mod Looking
 pub mod Rows
 pub mod Ready
 pub mod Listed

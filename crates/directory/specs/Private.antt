@@ -1,7 +1,9 @@
 -- What only the private functions of the crate promise one another. No public contract cites anything here.
 use Prim.Native.Nat.{ℕ, zero, suc, _+_, _-_, _≤_, _<_}
+use mathlib.Core.Bool.{Bool, cond, _&&_}
 use mathlib.Core.List.{List, [], _∷_}
 use mathlib.Core.Path.{_≡_}
+use lib.Dec.{eqb, leb, ltb}
 use lib.ListN.{length, set}
 use Rattle.layout.specs.Written.{bytesOf, sortNumber}
 use Rattle.layout.specs.Layout.{Kind}
@@ -13,24 +15,45 @@ use Rattle.table.specs.Table.{rowOf}
 use Rattle.table.specs.declared.Answer.the-variants.{Accepted, Refused}
 use Rattle.section.specs.Derivation.{Placed, placed}
 use Rattle.section.specs.Rest.{Rest}
+use Rattle.section.specs.Entry.{Stage}
+use Rattle.section.specs.Private.{Walks}
+use Rattle.section.specs.declared.Progress.{Progress}
+use Rattle.directory.specs.declared.Seen.{Seen}
+use Rattle.directory.specs.declared.Look.{Look}
 use Rattle.directory.specs.declared.Record.{Record}
 use Rattle.directory.specs.Directory.{recordOf, recordsFrom, directoryOf}
-use Rattle.directory.specs.Holder.{ByteHolder, holder, unheld, holderFrom}
+use Rattle.directory.specs.Holder.{ByteHolder, holder, unheld, unread, holderFrom}
 use Rattle.table.specs.declared.Answer as declared
 
 -- h is what holds a position of a derived section
 abbrev pub Holds : List ℕ → (position : ℕ) → ByteHolder → Type 0
 Holds s position h = (w : Rest s 0) → h ≡ holderFrom 0 (recordsFrom 0 (placed 0 (w .derivation .items))) position
 
--- What holds a byte of an entry, by the first byte of its payload, which is 0 for the sentinel alone
-abbrev pub holderBy : (kind index : ℕ) → ByteHolder
-holderBy zero index = unheld
-holderBy (suc kind) index = holder index
+-- Whether an entry was read between two states of a reading
+abbrev pub further : (p q : Progress) → Bool
+further p q = eqb (q .cursor .refusal) 0 && ltb (p .cursor .at) (q .cursor .at)
 
--- The index of the next entity after such an entry
-abbrev pub indexAfter : (kind index : ℕ) → ℕ
-indexAfter zero index = index
-indexAfter (suc kind) index = index + 1
+-- What is seen after that entry, which counts if it starts at or before the position
+abbrev pub seenAfter : Seen → (p q : Progress) → (position : ℕ) → Seen
+seenAfter seen p q position =
+    cond (ltb position (p .cursor .at)) seen (record { index = p .entities; next = q .entities; end = q .cursor .at })
+
+-- The entity of what was seen, if there is one and its entry contains the position
+abbrev pub heldBy : Seen → (position : ℕ) → ByteHolder
+heldBy seen position = cond (leb (seen .next) (seen .index)) unheld (cond (leb (seen .end) position) unheld (holder (seen .index)))
+
+-- The answer at the end
+abbrev pub heldIn : Look → (position : ℕ) → ByteHolder
+heldIn look position =
+    let c = look .progress .cursor in
+    cond (eqb (c .refusal) 0) (heldBy (look .seen) position) (unread (c .refusal) (c .at))
+
+-- Entries are read up to a boundary, through some table, and nothing is read there, or a refusal. Without a refusal, what was seen
+-- tells what holds the position
+pub record Looked (s : List ℕ) (position at : ℕ) (g : Stage) (seen : Seen) : Type 0 where
+  pub table : List ℕ
+  pub walks : Walks s table at g
+  pub held : g .state .cursor .refusal ≡ 0 → Holds s position (heldBy seen position)
 
 -- The rows from one on up to another have leaves that are no kinds, and that other has a kind or no leaf
 pub record NextKind (t : List ℕ) (from to : ℕ) : Type 0 where

@@ -1,16 +1,20 @@
 // The directory of a section: a record for each entity. And what holds a byte: the entity whose entry contains it.
-use section::Check;
+use framing::Framed;
+use leaf::Cursor;
+use section::Progress;
 use table::Answer;
 use table::Refusal;
 ghost use mathlib.Core.Path.{_≡_};
-ghost use Prim.Native.Nat.{_<_};
+ghost use Prim.Native.Nat.{_≤_};
 ghost use lib.ListN.{length};
+ghost use Rattle.layout.specs.Answers.{limit};
+ghost use Rattle.layout.specs.Theorems.{Bytes};
 ghost use Rattle.table.specs.Answers.{resultOf};
-ghost use Rattle.section.specs.Rest.{Rest};
+ghost use Rattle.section.specs.Entry.{staged};
 ghost use Rattle.directory.specs.Directory.{directoryOf, readingFor, directory, listedOf};
 ghost use Rattle.directory.specs.Holder.{entityAt, holderOf};
 ghost use Rattle.directory.specs.Exact.{ExactDirectory, ExactHolder};
-ghost use Rattle.directory.specs.Private.{holderBy, indexAfter, NextKind, Between, After, Ready, put, Holds, entityCount};
+ghost use Rattle.directory.specs.Private.{NextKind, Between, After, Ready, put, entityCount, Looked, further, seenAfter, heldIn};
 
 // The record of an entity: its kind; where its entry starts, which is where its length stands, and how long the entry is, with
 // the 4 bytes of that length; its first row, and how many rows it has. Rows are numbered from 0.
@@ -117,55 +121,115 @@ fn next_kind(t: &[u32], from: usize) -> usize
     row
 }
 
-// The entity whose entry contains the byte at a position, by its index; or the section's refusal of 1 to 12.
+// The entity whose entry contains the byte at a position, by its index; or the section's refusal of 1 to 12. As in
+// `decode_entities`, the entries are read as they are found, here through a table without rows, and the framing after them is
+// checked afterwards.
 pub fn entity_at(section: &[u8], position: u64) -> Holder
     ensures { λ r. ⌜ holderOf r ≡ entityAt (now (section .entry)) position ⌝ }
     ensures { λ r. ⌜ ExactHolder (now (section .entry)) position (holderOf r) ⌝ }
 {
-    match section::check_section(section) {
-        Check::Derived => holder_in(section, position),
-        Check::Refused(refusal) => Holder::Refused(refusal),
+    if layout::LIMIT < section.len() {
+        return Holder::Refused(Refusal {
+            number: 1,
+            place: 0,
+        });
+    }
+    let mut none: [u32; 0] = [];
+    let look = look_at(section, position, &mut none);
+    match framing::framing_from(section, look.at) {
+        Framed::Refused(refusal) => Holder::Refused(refusal),
+        Framed::Whole { end: _ } => holder_in(look, position),
     }
 }
 
-// The same, in a derived section: only the first entry that ends after the position can contain it.
-fn holder_in(s: &[u8], position: u64) -> Holder
-    requires { ⌜ Rest (now s) 0 ⌝ }
-    ensures { λ r. ⌜ Holds (now (s .entry)) position (holderOf r) ⌝ }
-{
-    let mut index: usize = 0;
-    let mut at: usize = 0;
-    let mut size = bytes::number_at(s, at);
-    while size != 0 {
-        let payload = at + 4;
-        at = payload + size as usize;
-        let kind = s[payload];
-        if position < at as u64 {
-            return holder_by(kind, index);
-        }
-        index = index_after(kind, index);
-        size = bytes::number_at(s, at);
-    }
-    Holder::Nothing
+// Of the last entry that starts at or before a position: how many entities are before it, how many with it, and where it ends.
+struct Seen {
+    index: usize,
+    next: usize,
+    end: usize,
 }
 
-// What holds a byte of an entry, by the first byte of its payload: the sentinel begins with 0, and no entity does.
-fn holder_by(kind: u8, index: usize) -> Holder
-    ensures { λ r. ⌜ holderOf r ≡ holderBy kind index ⌝ }
+// The reading up to the last entry, or up to the first refusal; the boundary before that; and what was seen of the position.
+struct Look {
+    progress: Progress,
+    at: usize,
+    seen: Seen,
+}
+
+// Entry after entry, as long as there are whole ones, or up to the first refusal.
+fn look_at(s: &[u8], position: u64, t: &mut [u32]) -> Look
+    requires { ⌜ length (now s) ≤ limit ⌝ ∗ ⌜ Bytes (now s) ⌝ }
+    ensures { λ r. ⌜ Looked (now (s .entry)) position (r .at) (staged (r .progress) (now (t .exit))) (r .seen) ⌝ }
 {
-    if kind == 0 {
+    let mut seen = Seen {
+        index: 0,
+        next: 0,
+        end: 0,
+    };
+    let mut p = Progress {
+        cursor: Cursor::new(),
+        entities: 0,
+    };
+    let mut q = section::read_entry(p, s, t);
+    while is_further(p, q) {
+        seen = seen_after(seen, p, q, position);
+        p = q;
+        q = section::read_entry(p, s, t);
+    }
+    let c = p.cursor;
+    Look {
+        progress: q,
+        at: c.at,
+        seen,
+    }
+}
+
+// Whether an entry was read between two states of a reading.
+fn is_further(p: Progress, q: Progress) -> bool
+    ensures { λ r. ⌜ r ≡ further p q ⌝ }
+{
+    let c = p.cursor;
+    let d = q.cursor;
+    if d.refusal != 0 {
+        return false;
+    }
+    c.at < d.at
+}
+
+// What is seen after the entry between two states of a reading.
+fn seen_after(seen: Seen, p: Progress, q: Progress, position: u64) -> Seen
+    ensures { λ r. ⌜ r ≡ seenAfter seen p q position ⌝ }
+{
+    let c = p.cursor;
+    let d = q.cursor;
+    if position < c.at as u64 {
+        return seen;
+    }
+    Seen {
+        index: p.entities,
+        next: q.entities,
+        end: d.at,
+    }
+}
+
+// The answer at the end: the refusal; or the entity of the last entry that was seen, if it has one and contains the position.
+fn holder_in(look: Look, position: u64) -> Holder
+    ensures { λ r. ⌜ holderOf r ≡ heldIn look position ⌝ }
+{
+    let p = look.progress;
+    let c = p.cursor;
+    let seen = look.seen;
+    if c.refusal != 0 {
+        return Holder::Refused(Refusal {
+            number: c.refusal,
+            place: c.at,
+        });
+    }
+    if seen.next <= seen.index {
         return Holder::Nothing;
     }
-    Holder::Entity { index }
-}
-
-// The index of the next entity after such an entry.
-fn index_after(kind: u8, index: usize) -> usize
-    requires { ⌜ index < 4294967296 ⌝ }
-    ensures { λ r. ⌜ r ≡ indexAfter kind index ⌝ }
-{
-    if kind != 0 {
-        return index + 1;
+    if seen.end as u64 <= position {
+        return Holder::Nothing;
     }
-    index
+    Holder::Entity { index: seen.index }
 }

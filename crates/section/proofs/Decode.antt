@@ -33,6 +33,18 @@ module _ {s : List ℕ} {at : ℕ} (w : Walked s at) (f : Framed) (e : framingOf
   pub framing-refused : (x : Refusal) → f ≡ Refused x → framingEnd s ≡ refuse (x .number) (x .place)
   framing-refused x k = w .rest ∙ sym e ∙ ap framingOf k
 
+-- A section whose framing is refused
+pub refused-section : (s : List ℕ) → length s ≤ limit → (n p : ℕ) → framingEnd s ≡ refuse n p → readSection s ≡ refuse n p
+unfolding readSection framingEnd
+refused-section s small n p q = go (framing s) refl q
+  where
+    go : (g : Parts) → framing s ≡ g → endOf g ≡ refuse n p → readSection s ≡ refuse n p
+    go (ok ps end) k w = let z : _≡_ {A = ℕ} 0 1 = cc in absurd (omega arith)
+    go (refuse m l) k w =
+        let a : m ≡ n = cc in
+        let b : l ≡ p = cc in
+        rw (le-leb (length s) limit small, k, a, b)
+
 module _ (s table : List ℕ) (r : Result) where
   -- 1
   pub by-limit : limit < length s → r ≡ refusal 1 0 table → r ≡ reading s table
@@ -40,21 +52,10 @@ module _ (s table : List ℕ) (r : Result) where
   by-limit h e = e ∙ rw (lt-leb (length s) limit h)
 
   module _ (small : length s ≤ limit) where
-    refused-section : (n p : ℕ) → framingEnd s ≡ refuse n p → readSection s ≡ refuse n p
-    unfolding readSection framingEnd
-    refused-section n p q = go (framing s) refl q
-      where
-        go : (g : Parts) → framing s ≡ g → endOf g ≡ refuse n p → readSection s ≡ refuse n p
-        go (ok ps end) k w = let z : _≡_ {A = ℕ} 0 1 = cc in absurd (omega arith)
-        go (refuse m l) k w =
-            let a : m ≡ n = cc in
-            let b : l ≡ p = cc in
-            rw (le-leb (length s) limit small, k, a, b)
-
     -- 2 to 4, whatever the walk has stored
     pub by-framing : (stored : List ℕ) → length stored ≡ length table → (n p : ℕ) → framingEnd s ≡ refuse n p → r ≡ refusal n p stored → r ≡ reading s table
     unfolding reading
-    by-framing stored l n p q e = e ∙ rw (refused-section n p q, l)
+    by-framing stored l n p q e = e ∙ rw (refused-section s small n p q, l)
 
     -- 5 to 13, or acceptance
     pub by-entries : (end : ℕ) (g : Stage) → Reads table end g (readSection s) → r ≡ answered (g .entities) (g .state) → r ≡ reading s table

@@ -110,7 +110,7 @@ arriveEntities-more : (es : List Placed) (e : Placed) (st : ReadState) → arriv
 arriveEntities-more [] e st = refl
 arriveEntities-more (f ∷ es) e st = arriveEntities-more es e (arriveAll (f .content) (seeks (f .at) st))
 
-arriveEntities-refusal : (es : List Placed) (st : ReadState) → arriveEntities es st .cursor .refusal ≡ st .cursor .refusal
+pub arriveEntities-refusal : (es : List Placed) (st : ReadState) → arriveEntities es st .cursor .refusal ≡ st .cursor .refusal
 arriveEntities-refusal [] st = refl
 arriveEntities-refusal (e ∷ es) st = arriveEntities-refusal es (arriveAll (e .content) (seeks (e .at) st)) ∙ arriveAll-refusal (e .content) (seeks (e .at) st)
 
@@ -301,6 +301,15 @@ answers table end g o (reads {es = es} {at = at} e) =
     ∙ answered-told (givenOf es) at table (seeks end (arriveEntities es st)) (arriveEntities-refusal es st) (arriveEntities-length es st)
     (λ k. let f = entities-fill es st (omega arith) in (f .rows ∙ omega arith, f .front)) (λ k. omega (arith, entities-count es st))
 answers table end g o (stops h) = answered-refused (g .entities) (g .state) (λ w. h .1 (sym (h .0) ∙ w)) ∙ rw (h .0, h .2, h .3)
+
+-- What the stage at the end of the walk says of the section
+pub reads-accepted : {table : List ℕ} {end : ℕ} {g : Stage} (o : Outcome ℕ (List Placed)) → Reads table end g o → g .state .cursor .refusal ≡ 0 → (es : List Placed) × (at : ℕ) × (o ≡ ok es at)
+reads-accepted o (reads {es} {at} e) z = (es, at, refl)
+reads-accepted o (stops h) z = absurd (h .1 (sym (h .0) ∙ z))
+
+pub reads-refused : {table : List ℕ} {end : ℕ} {g : Stage} (o : Outcome ℕ (List Placed)) → Reads table end g o → (g .state .cursor .refusal ≡ 0 → ⊥) → o ≡ refuse (g .state .cursor .refusal) (g .state .cursor .at)
+reads-refused {table} o (reads {es} e) n = absurd (n (ap (λ (x : Stage). x .state .cursor .refusal) e ∙ arriveEntities-refusal es (readState newCursor table)))
+reads-refused o (stops h) n = rw (h .0, h .2)
 
 -- One entry, from the results of the code's calls: n is its length, b whether it is the sentinel
 module _ (s : List ℕ) (g : Stage) (n : ℕ) (q : n ≡ numberOr0 s (g .state .cursor .at)) (b : Bool) (e : b ≡ same (drop (g .state .cursor .at + 4) (take (g .state .cursor .at + 4 + n) s)) sentinelBytes) where

@@ -2,7 +2,6 @@ pub mod Derivation
 pub mod Section
 pub mod Refusals
 pub mod Demand3
-pub mod Checked
 pub mod Rest
 pub mod Entries
 pub mod Next

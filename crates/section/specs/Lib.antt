@@ -3,7 +3,6 @@ pub mod Refusals
 pub mod Section
 pub mod Entry
 pub mod Demand3
-pub mod Checked
 pub mod Rest
 pub mod Theorems
 pub mod Private

@@ -11,7 +11,6 @@ use Rattle.section.specs.Derivation.{Item, sentinel, Placed, Derivation,
 use Rattle.section.specs.Section.{readSection, reading}
 use Rattle.section.specs.Refusals.{SectionRefusal}
 use Rattle.section.specs.Demand3.{DerivedBy, Good, Demand3}
-use Rattle.section.specs.Checked.{Checked, sectionCheck, ExactCheck}
 
 -- A section is accepted exactly if it is derived, with the entities of its derivation: `section-exact` in Section.antt
 abbrev pub Section-exact : Type 0
@@ -53,10 +52,6 @@ Reading-only = (s : List ℕ) → Bytes s → (table : List ℕ) (r : Result) �
 -- Its answer accepts exactly if the number is 0: `reading-told` in Demand3.antt
 abbrev pub Reading-told : Type 0
 Reading-told = (s : List ℕ) → Bytes s → (table : List ℕ) → Told (reading s table .answer)
-
--- Exactly one outcome of the check has its condition met, and the check tells it: `check-exact` in Checked.antt
-abbrev pub Check-exact : Type 0
-Check-exact = (s : List ℕ) → Bytes s → (c : Checked) → ExactCheck s c ↔ (c ≡ sectionCheck s)
 
 -- Of the table before the reading only the length matters: `table-free` in Demand3.antt
 abbrev pub Table-free : Type 0

@@ -3,7 +3,6 @@ use framing::Framed;
 use layout::LIMIT;
 use leaf::Cursor;
 use table::Answer;
-use table::Refusal;
 ghost use Prim.Native.Nat.{_+_, _≤_};
 ghost use mathlib.Core.Path.{_≡_};
 ghost use lib.ListN.{length};
@@ -13,7 +12,6 @@ ghost use Rattle.bytes.specs.Bytes.{numberOr0};
 ghost use Rattle.table.specs.Answers.{resultOf};
 ghost use Rattle.section.specs.Section.{reading};
 ghost use Rattle.section.specs.Demand3.{Demand3};
-ghost use Rattle.section.specs.Checked.{sectionCheck, checkOf, ExactCheck};
 ghost use Rattle.section.specs.Entry.{staged, pastEntry, readEntry};
 ghost use Rattle.section.specs.Private.{Walks};
 
@@ -27,12 +25,6 @@ pub struct Progress {
 struct Walk {
     progress: Progress,
     at: usize,
-}
-
-// Whether the layouts derive a section: they do, or it has a refusal of 1 to 12.
-pub enum Check {
-    Derived,
-    Refused(Refusal),
 }
 
 // One entry, at the cursor: the sentinel, which yields nothing, or an entity. Nothing is read after a refusal, if there is no
@@ -122,27 +114,6 @@ pub fn decode_entities(section: &[u8], table: &mut [u32]) -> Answer
             let p = walk.progress;
             let c = p.cursor;
             c.answer(table, p.entities)
-        }
-    }
-}
-
-// The refusals 1 to 12 alone, without a table. The section is read through a table without rows, so that 13 only says that it is
-// derived and has leaves.
-pub fn check_section(section: &[u8]) -> Check
-    ensures { λ r. ⌜ checkOf r ≡ sectionCheck (now (section .entry)) ⌝ }
-    ensures { λ r. ⌜ ExactCheck (now (section .entry)) (checkOf r) ⌝ }
-{
-    let mut none: [u32; 0] = [];
-    match decode_entities(section, &mut none) {
-        Answer::Accepted {
-            entities: _,
-            rows: _,
-        } => Check::Derived,
-        Answer::Refused(refusal) => {
-            if refusal.number == 13 {
-                return Check::Derived;
-            }
-            Check::Refused(refusal)
         }
     }
 }

@@ -15,12 +15,12 @@ use Rattle.bytes.proofs.Number.{number-there}
 use Rattle.table.specs.Table.{rowOf}
 use Rattle.table.specs.declared.Row.{Row}
 use Rattle.framing.proofs.Framing.{EntryAt, entry-at}
-use Rattle.section.specs.Derivation.{Item, sentinel, entity, payload, entries, ProperItem, ProperItems, Placed, placed, rowsOf}
+use Rattle.section.specs.Derivation.{Item, sentinel, entity, payload, entries, ProperItems, Placed, placed, rowsOf}
 use Rattle.section.proofs.Derivation.{payload-some, payload-small}
 use Rattle.directory.specs.Directory.{recordOf, recordsFrom}
-use Rattle.directory.specs.Private.{NextKind, EntityIn, rowAfter, Between, After, recordBefore}
+use Rattle.directory.specs.Private.{Guessed, RowsEnd, EntityIn, rowAfter, Between, After, recordBefore}
 use Rattle.directory.specs.declared.Record.{Record}
-use Rattle.directory.proofs.Rows.{kind-row, other-rows, next-unique}
+use Rattle.directory.proofs.Rows.{kind-row, entry-rows}
 
 -- The record of the entity after another record
 module _ {s t : List ℕ} {r : Record} (b : Between s t r) (row : Row) (e : row ≡ rowOf t (rowAfter r)) where
@@ -37,9 +37,21 @@ module _ {s t : List ℕ} {r : Record} (b : Between s t r) (row : Row) (e : row 
     pub size-small : size ≤ limit
     size-small = omega (arith, size-is, b .there .ends)
 
-    module _ (next : ℕ) (k : NextKind t (rowAfter r + 1) next) where
-      pub next-is : next ≡ rowAfter r + length (b .next .content)
-      next-is = next-unique k (b .there .others)
+    pub end-small : row .offset - 4 + (4 + size) ≤ limit
+    end-small = omega (arith, offset-is, start-there, size-is, b .there .ends)
+
+    pub guessed : Guessed t (rowAfter r + r .«row_count») (row .offset - 4) (row .offset - 4 + (4 + size))
+    guessed =
+        let end : row .offset - 4 + (4 + size) ≡ b .next .at + length (bytesOf (b .next .content)) = omega (arith, offset-is, start-there, size-is) in
+        record { first = rowAfter r; next = rowAfter r + length (b .next .content); rows = rw (end, offset-is) (b .there .rows); low = omega arith }
+
+    module _ (next : ℕ) (k : RowsEnd t (rowAfter r + r .«row_count») (row .offset - 4) (row .offset - 4 + (4 + size)) next) where
+      next-is : next ≡ rowAfter r + length (b .next .content)
+      unfolding guessed
+      next-is = k guessed
+
+      pub rows-some : rowAfter r ≤ next
+      rows-some = omega (arith, next-is)
 
       pub count-small : next - rowAfter r ≤ limit
       count-small = omega (arith, next-is, b .there .few)
@@ -107,8 +119,8 @@ module _ {s t : List ℕ} {at row : ℕ} {v : Value Entity} {is : List Item} (w 
         ends = omega (arith, there .inside, w .small);
         size = ap (λ (n : ℕ). numberOr0 s n) z ∙ number-there s at (omega (arith, there .inside)) ∙ there .number;
         few = omega (arith, w .few, leaves-bytes (leaves Entity v), there .inside, w .small);
-        kind = kind-row t row (at + 4) (w .zeros) v (at + 4 + length (bytes Entity v)) is (w .rows);
-        others = other-rows t row (at + 4) (w .zeros) v (at + 4 + length (bytes Entity v)) is (w .rows);
+        kind = kind-row t row (at + 4) (w .zeros) v is (w .rows);
+        rows = entry-rows t row (at + 4) (w .zeros) v is (w .rows) (omega arith);
       }
 
 -- The record before each of the items' entities is followed by that entity

@@ -1,6 +1,6 @@
 -- What only the private functions of the crate promise one another. No public contract cites anything here.
 use Prim.Native.Nat.{ℕ, zero, suc, _+_, _-_, _≤_, _<_}
-use mathlib.Core.Bool.{Bool, cond, _&&_}
+use mathlib.Core.Bool.{Bool, true, false, cond, _&&_}
 use mathlib.Core.List.{List, [], _∷_}
 use mathlib.Core.Path.{_≡_}
 use lib.Dec.{eqb, leb, ltb}
@@ -55,11 +55,26 @@ pub record Looked (s : List ℕ) (position at : ℕ) (g : Stage) (seen : Seen) :
   pub walks : Walks s table at g
   pub held : g .state .cursor .refusal ≡ 0 → Holds s position (heldBy seen position)
 
--- The rows from one on up to another have leaves that are no kinds, and that other has a kind or no leaf
-pub record NextKind (t : List ℕ) (from to : ℕ) : Type 0 where
-  pub low : from ≤ to
-  pub others : (row : ℕ) → from ≤ row → row < to → sortNumber Kind < rowOf t row .sort
-  pub stops : rowOf t to .sort ≤ sortNumber Kind
+-- The offset of a row is past a start and not past an end. A row that the table does not have has the offset 0, past no start
+abbrev pub rowWithin : List ℕ → (start end row : ℕ) → Bool
+rowWithin t start end row = ltb start (rowOf t row .offset) && leb (rowOf t row .offset) end
+
+-- Of the rows from the first on, exactly those before the next are within an entry
+pub record EntryRows (t : List ℕ) (start end first next : ℕ) : Type 0 where
+  pub some : first < next
+  pub inside : (row : ℕ) → first ≤ row → row < next → rowWithin t start end row ≡ true
+  pub beyond : (row : ℕ) → next ≤ row → rowWithin t start end row ≡ false
+
+-- A guess is at the first of such rows or after it
+pub record Guessed (t : List ℕ) (guess start end : ℕ) : Type 0 where
+  pub first : ℕ
+  pub next : ℕ
+  pub rows : EntryRows t start end first next
+  pub low : first ≤ guess
+
+-- x is the row after them
+abbrev pub RowsEnd : (t : List ℕ) (guess start end x : ℕ) → Type 0
+RowsEnd t guess start end x = (g : Guessed t guess start end) → x ≡ g .next
 
 -- An entity whose entry is in s, and whose rows are in t from a row on
 pub record EntityIn (s t : List ℕ) (row : ℕ) (e : Placed) : Type 0 where
@@ -68,7 +83,7 @@ pub record EntityIn (s t : List ℕ) (row : ℕ) (e : Placed) : Type 0 where
   pub size : numberOr0 s (e .at - 4) ≡ length (bytesOf (e .content))
   pub few : row + length (e .content) ≤ limit
   pub kind : rowOf t row ≡ record { sort = sortNumber Kind; offset = e .at; value = valueIn (e .content) 0 }
-  pub others : NextKind t (row + 1) (row + length (e .content))
+  pub rows : EntryRows t (e .at - 4) (e .at + length (bytesOf (e .content))) row (row + length (e .content))
 
 -- The first row after those of a record
 abbrev pub rowAfter : Record → ℕ

@@ -14,7 +14,7 @@ ghost use Rattle.section.specs.Entry.{staged};
 ghost use Rattle.directory.specs.Directory.{directoryOf, readingFor, directory, listedOf};
 ghost use Rattle.directory.specs.Holder.{entityAt, holderOf};
 ghost use Rattle.directory.specs.Exact.{ExactDirectory, ExactHolder};
-ghost use Rattle.directory.specs.Private.{NextKind, Between, After, Ready, put, entityCount, Looked, further, seenAfter, heldIn};
+ghost use Rattle.directory.specs.Private.{rowWithin, Guessed, RowsEnd, Between, After, Ready, put, entityCount, Looked, further, seenAfter, heldIn};
 
 // The record of an entity: its kind; where its entry starts, which is where its length stands, and how long the entry is, with
 // the 4 bytes of that length; its first row, and how many rows it has. Rows are numbered from 0.
@@ -100,25 +100,40 @@ fn record_after(s: &[u8], t: &[u32], r: Record) -> Record
     let first = r.first_row as usize + r.row_count as usize;
     let row = table::row_at(t, first);
     let start = row.offset - 4;
-    let next = next_kind(t, first + 1);
+    let length = 4 + bytes::number_at(s, start as usize);
+    let guess = first + r.row_count as usize;
+    let next = rows_end(t, guess, start, start + length);
     Record {
         kind: row.value,
         start,
-        length: 4 + bytes::number_at(s, start as usize),
+        length,
         first_row: first as u32,
         row_count: (next - first) as u32,
     }
 }
 
-// The first row, from a row on, that is a kind, or has no leaf.
-fn next_kind(t: &[u32], from: usize) -> usize
-    ensures { λ r. ⌜ NextKind (now (t .entry)) from r ⌝ }
+// The row after those of an entry, which are the rows whose offsets are past its start and not past its end. The search begins at
+// a guess, goes on to a row that is not one of them, and then back to the last that is.
+fn rows_end(t: &[u32], guess: usize, start: u32, end: u32) -> usize
+    requires { ⌜ Guessed (now t) guess start end ⌝ }
+    ensures { λ r. ⌜ RowsEnd (now (t .entry)) guess start end r ⌝ }
 {
-    let mut row = from;
-    while layout::SORT_KIND < table::row_at(t, row).sort {
+    let mut row = guess;
+    while is_within(t, row, start, end) {
         row += 1;
     }
+    while !is_within(t, row - 1, start, end) {
+        row -= 1;
+    }
     row
+}
+
+// The offset of a row is past a start and not past an end.
+fn is_within(t: &[u32], row: usize, start: u32, end: u32) -> bool
+    ensures { λ r. ⌜ r ≡ rowWithin (now (t .entry)) start end row ⌝ }
+{
+    let offset = table::row_at(t, row).offset;
+    start < offset && offset <= end
 }
 
 // The entity whose entry contains the byte at a position, by its index; or the section's refusal of 1 to 12. As in

@@ -1,6 +1,5 @@
 pub mod Walk
 pub mod Each
-pub mod EntityKinds
 pub mod Numbers
 pub mod InBytes
 pub mod BadReads

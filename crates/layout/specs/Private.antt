@@ -1,6 +1,5 @@
--- Groups of fields that one private function reads or writes, and leaves that are not kinds; no public contract cites them.
-use mathlib.Core.Path.{_≡_}
-use Rattle.layout.specs.Layout.{Kind, Leaf, plain, string, Layout, text, _then_}
+-- Groups of fields that one private function reads or writes; no public contract cites them.
+use Rattle.layout.specs.Layout.{Layout, text, _then_}
 use Rattle.layout.specs.Forms.{number, flag}
 use Rattle.layout.specs.Entities.{OptionStr, OptionUsedType, OptionFinalizeModify, OptionParallelOption, OptionAggregateTypeList, AggregateType, AggregateTypeList, PgExternArgumentList, PgExternReturn, ExternArgList, SearchPath, OptionOperator, OptionCast}
 
@@ -51,8 +50,3 @@ MovingAggregate = OptionStr then OptionStr then OptionUsedType then OptionStr th
 -- Of an aggregate: sortop, parallel, hypothetical
 unfoldable pub AggregateOptions : Layout
 AggregateOptions = OptionStr then OptionParallelOption then flag
-
--- A leaf is not the kind of an entity
-abbrev pub NoKind : Leaf → Type 0
-NoKind (plain srt n) = srt ≡ Kind → ⊥
-NoKind (string t) = Unit {0}

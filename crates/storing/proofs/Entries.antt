@@ -17,8 +17,7 @@ use Rattle.entry_writer.specs.Refusals.{RowGives, Sized}
 use Rattle.entry_writer.proofs.Along.{along-part, along-at, along-each, along-map, along-also}
 use Rattle.entry_writer.proofs.Spelled.{There, Given, given-there, good-sound, all-good}
 use Rattle.storing.specs.Private.{Spot, spot, isKind, nextKind, entityEnd, storedPayload, lengthStored}
-use Rattle.layout.specs.Private.{NoKind}
-use Rattle.storing.specs.Storing.{KindFirst, KindsFirst, joined, entriesOf, StoresEntries}
+use Rattle.storing.specs.Storing.{NoKind, KindFirst, KindsFirst, joined, entriesOf, StoresEntries}
 use Rattle.storing.proofs.Rows.{next-here, next-past, next-none}
 use Rattle.storing.proofs.Stored.{GoodFrom, pasted-after, stored-leaves}
 

@@ -3,8 +3,7 @@ use Prim.Native.Nat.{ℕ, _*_, _≤_}
 use mathlib.Core.List.{List, [], _∷_, _++_}
 use mathlib.Core.Path.{_≡_}
 use lib.ListN.{length, drop}
-use Rattle.layout.specs.Layout.{Kind, Leaf, plain}
-use Rattle.layout.specs.Private.{NoKind}
+use Rattle.layout.specs.Layout.{Kind, Leaf, plain, string}
 use Rattle.layout.specs.Written.{four, bytesOf, rowWidth}
 use Rattle.layout.specs.Answers.{limit}
 use Rattle.entry_writer.specs.Refusals.{RowGives, Along, Sized, GoodTexts}
@@ -20,6 +19,11 @@ abbrev pub Stores : (rows text dest after : List ℕ) → Type 0
 Stores rows text dest after =
     (ls : List Leaf) → Gives rows text ls → GoodTexts rows text → length (bytesOf ls) ≤ length dest
     → after ≡ bytesOf ls ++ drop (length (bytesOf ls)) dest
+
+-- A leaf is not the kind of an entity
+abbrev pub NoKind : Leaf → Type 0
+NoKind (plain srt n) = srt ≡ Kind → ⊥
+NoKind (string t) = Unit {0}
 
 -- The leaves of an entity: its kind, and others that are no kinds
 pub record KindFirst (ls : List Leaf) : Type 0 where

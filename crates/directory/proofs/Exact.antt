@@ -10,11 +10,11 @@ use lib.Seq.{ext-getD, getD-append-add, getD-drop}
 use borrow.Author.Tests.{leb-true, leb-false, ltb-true, ltb-false, le-leb, lt-leb, ne-eqb}
 use Rattle.layout.specs.Written.{rowWidth, rowsFrom}
 use Rattle.layout.specs.Reading.{Outcome, ok, refuse}
-use Rattle.layout.specs.Answers.{Answer, Result, Accepts, wholeRows, acceptance, refusal}
+use Rattle.layout.specs.Answers.{Accepts, wholeRows, acceptance, refusal}
 use Rattle.layout.specs.Theorems.{Bytes, Told}
 use Rattle.layout.proofs.Walk.{all-ok}
 use Rattle.layout.proofs.Rows.{rows-length}
-use Rattle.section.specs.Derivation.{Placed, placed, totalLeaves, rowsOf, givenOf, Derivation, entitiesOf}
+use Rattle.section.specs.Derivation.{Placed, totalLeaves, rowsOf, givenOf, Derivation, entitiesOf}
 use Rattle.section.specs.Section.{readSection, reading}
 use Rattle.section.specs.Refusals.{SectionRefusal}
 use Rattle.section.specs.Demand3.{Good, gives}

@@ -6,10 +6,10 @@ use mathlib.Core.Bool.{Bool, true, false, cond, _&&_, and-eq-true-iff}
 use mathlib.Core.List.{List, [], _∷_}
 use mathlib.Core.Logic.{_↔_}
 use mathlib.Core.Path.{_≡_, refl, sym, ap, _∙_}
-use lib.Dec.{leb, ltb}
+use lib.Dec.{leb}
 use lib.ListN.{length, getD}
 use borrow.Author.Tests.{leb-true, le-ltb}
-use Rattle.layout.specs.Layout.{Value, leaves}
+use Rattle.layout.specs.Layout.{leaves}
 use Rattle.layout.specs.Written.{bytes}
 use Rattle.layout.specs.Entities.{Entity, valueIn}
 use Rattle.layout.specs.Reading.{Outcome, ok, refuse}
@@ -22,7 +22,7 @@ use Rattle.section.specs.Demand3.{Good}
 use Rattle.section.proofs.Section.{section-complete, section-sound}
 use Rattle.section.proofs.Refusals.{refusal-exact}
 use Rattle.directory.specs.Directory.{recordsFrom, directoryOf}
-use Rattle.directory.specs.Holder.{ByteHolder, holder, unheld, unread, contains, holderFrom, entityAt}
+use Rattle.directory.specs.Holder.{ByteHolder, holder, unheld, contains, holderFrom, entityAt}
 use Rattle.directory.specs.Exact.{EntityWith, recordBy, ExactHolder, in-entry, in-none, not-read}
 use Rattle.directory.specs.Theorems.{Holder-exact, Holder-record, One-record}
 use Rattle.directory.specs.Private.{zeros}

@@ -18,20 +18,20 @@ use Rattle.layout.proofs.Walk.{all-ok}
 use Rattle.layout.proofs.Alone.{never-accepts}
 use Rattle.table.specs.Answers.{answerOf, resultOf}
 use Rattle.table.specs.declared.Answer.the-variants.{Accepted, Refused}
-use Rattle.section.specs.Derivation.{Placed, totalLeaves, givenOf, entitiesOf}
+use Rattle.section.specs.Derivation.{Placed, totalLeaves, givenOf}
 use Rattle.section.specs.Section.{readSection, reading}
 use Rattle.section.proofs.Section.{section-sound}
 use Rattle.directory.specs.declared.Record.{Record}
-use Rattle.directory.specs.Directory.{recordsFrom, directoryOf, fitted, readingFor, listAfter, Listed, directory, listedOf}
-use Rattle.directory.specs.Private.{zeros, recordBefore, put, Ready, entityCount}
+use Rattle.directory.specs.Directory.{recordsFrom, directoryOf, fitted, readingFor, listAfter, directory, listedOf}
+use Rattle.directory.specs.Private.{zeros, recordBefore, recordsPut, Ready, entityCount}
 use Rattle.directory.proofs.Records.{length-records}
 use Rattle.directory.proofs.Ready.{Stored, leads}
 use Rattle.layout.specs.Answers as answers
 use Rattle.table.specs.declared.Answer as declared
 
-pub length-put : (rs : List Record) (n : ℕ) (l : List Record) → length (put rs n l) ≡ length l
+pub length-put : (rs : List Record) (n : ℕ) (l : List Record) → length (recordsPut rs n l) ≡ length l
 length-put rs zero l = refl
-length-put rs (suc n) l = length-set (put rs n l) n (recordBefore zeros rs (suc n)) ∙ length-put rs n l
+length-put rs (suc n) l = length-set (recordsPut rs n l) n (recordBefore zeros rs (suc n)) ∙ length-put rs n l
 
 before-is : (r : Record) (rs : List Record) (n : ℕ) → n < length rs → recordBefore r rs (suc n) ≡ getD rs n zeros
 before-is r [] n h = absurd (omega arith)
@@ -39,16 +39,16 @@ before-is r (x ∷ rs) zero h = refl
 before-is r (x ∷ rs) (suc n) h = before-is x rs n (omega arith)
 
 -- The records, then the rest of the list unchanged
-put-is : (rs : List Record) (n : ℕ) (l : List Record) → n ≤ length rs → n ≤ length l → put rs n l ≡ take n rs ++ drop n l
+put-is : (rs : List Record) (n : ℕ) (l : List Record) → n ≤ length rs → n ≤ length l → recordsPut rs n l ≡ take n rs ++ drop n l
 put-is rs zero l h k = refl
 put-is rs (suc n) l h k =
     let x : Record = getD rs n zeros in
-    ap (λ (z : Record). set (put rs n l) n z) (before-is zeros rs n h)
+    ap (λ (z : Record). set (recordsPut rs n l) n z) (before-is zeros rs n h)
     ∙ ap (λ (t : List Record). set t n x) (put-is rs n l (le-of-lt h) (le-of-lt k) ∙ ap (λ (t : List Record). take n rs ++ t) (drop-cons l n x k))
     ∙ set-at (take n rs) (getD l n x) (drop (suc n) l) x n (length-take-le n rs (le-of-lt h))
     ∙ sym (ap (λ (t : List Record). t ++ drop (suc n) l) (take-suc rs n zeros h) ∙ append-assoc (take n rs) (x ∷ []) (drop (suc n) l))
 
-put-all : (rs l : List Record) → length rs ≤ length l → put rs (length rs) l ≡ rs ++ drop (length rs) l
+put-all : (rs l : List Record) → length rs ≤ length l → recordsPut rs (length rs) l ≡ rs ++ drop (length rs) l
 put-all rs l h = put-is rs (length rs) l (omega arith) h ∙ ap (λ (x : List Record). x ++ drop (length rs) l) (take-length rs)
 
 -- What the reading gives, with room for so many records
@@ -107,13 +107,13 @@ module _ (s : List ℕ) (u : Bytes s) (table : List ℕ) (room : ℕ) (t : List 
           rw n (all-ready s u t (length table - rowWidth * totalLeaves es) room es end k h (ap (λ (y : Result). y .table) e))
 
 -- The list with the records is the directory's
-pub listed : (s table : List ℕ) (list : List Record) (t : List ℕ) (r : declared.Answer) → resultOf r t ≡ readingFor s table (length list) → (l : List Record) → l ≡ put (directoryOf s) (entityCount r) list → listedOf r t l ≡ directory s table list
+pub listed : (s table : List ℕ) (list : List Record) (t : List ℕ) (r : declared.Answer) → resultOf r t ≡ readingFor s table (length list) → (l : List Record) → l ≡ recordsPut (directoryOf s) (entityCount r) list → listedOf r t l ≡ directory s table list
 unfolding directory directoryOf
 listed s table list t r e l f =
     let q : l ≡ listAfter (readingFor s table (length list)) (directoryOf s) list = f ∙ go r (readingFor s table (length list)) (comes s table (length list)) e in
     λ i. record { result = e i; list = q i }
   where
-    go : (r : declared.Answer) (x : Result) → Comes s table (length list) x → resultOf r t ≡ x → put (directoryOf s) (entityCount r) list ≡ listAfter x (directoryOf s) list
+    go : (r : declared.Answer) (x : Result) → Comes s table (length list) x → resultOf r t ≡ x → recordsPut (directoryOf s) (entityCount r) list ≡ listAfter x (directoryOf s) list
     go (Refused refusal) x (turned n p q) e = rw q
     go (Refused refusal) x (given es end k h) e = absurd (not-both (sym (ap (λ (y : Result). y .answer) e)))
     go (Accepted entities rows) x (turned n p q) e = absurd (not-both (ap (λ (y : Result). y .answer) e ∙ q))

@@ -1,17 +1,17 @@
 -- The look-up: entries are read one after the other, and the last that starts at or before the position is remembered.
 use Prim.Native.Nat.{ℕ, _+_, _-_, _≤_, _<_}
 use native.Mathlib.Omega.{arith}
-use mathlib.Core.Bool.{Bool, true, false, cond, _&&_, and-eq-true-iff}
-use mathlib.Core.List.{List, [], _∷_, _++_}
+use mathlib.Core.Bool.{Bool, true, false, cond, and-eq-true-iff}
+use mathlib.Core.List.{List, [], _∷_}
 use mathlib.Core.Path.{_≡_, refl, sym, ap, subst, _∙_}
 use lib.Dec.{eqb, leb, ltb}
 use lib.ListN.{length, take, drop}
 use lib.Seq.{take-append-seam}
-use borrow.Author.Tests.{le-leb, lt-leb, lt-ltb, le-ltb, ltb-true, ltb-false, leb-true, leb-false, eq-eqb, ne-eqb, eqb-true, eqb-false}
-use Rattle.layout.specs.Layout.{Value, leaves}
+use borrow.Author.Tests.{le-leb, lt-leb, lt-ltb, le-ltb, ltb-true, ltb-false, eq-eqb, ne-eqb, eqb-true, eqb-false}
+use Rattle.layout.specs.Layout.{leaves}
 use Rattle.layout.specs.Written.{bytes}
 use Rattle.layout.specs.Entities.{Entity}
-use Rattle.layout.specs.Reading.{Outcome, ok, refuse}
+use Rattle.layout.specs.Reading.{refuse}
 use Rattle.layout.specs.Answers.{limit}
 use Rattle.layout.specs.Theorems.{Bytes}
 use Rattle.layout.proofs.Walk.{all-ok}
@@ -30,7 +30,7 @@ use Rattle.framing.specs.Places.{entryEnd}
 use Rattle.framing.specs.declared.Framed.{Framed}
 use Rattle.framing.specs.declared.Framed.the-variants.{Whole, Refused}
 use Rattle.framing.proofs.Entries.{entry-here, whole-here}
-use Rattle.section.specs.Derivation.{Item, sentinel, entity, payload, ProperItem, Placed, placed, Derivation}
+use Rattle.section.specs.Derivation.{Item, sentinel, entity, payload, ProperItem, placed, Derivation}
 use Rattle.section.specs.Section.{readSection}
 use Rattle.section.specs.Entry.{Stage, stage, staged, seeks, pastEntry, readEntry}
 use Rattle.section.specs.Rest.{Rest}
@@ -46,7 +46,7 @@ use Rattle.section.proofs.Rest.{rest-whole, First, rest-first, rest-none}
 use Rattle.directory.specs.Directory.{recordsFrom}
 use Rattle.directory.specs.Holder.{ByteHolder, holder, unheld, unread, holderFrom, entityAt}
 use Rattle.directory.specs.Exact.{ExactHolder}
-use Rattle.directory.specs.Private.{Holds, further, seenAfter, heldBy, heldIn, Looked}
+use Rattle.directory.specs.Private.{IsHolder, entryRead, seenAfter, heldBy, heldIn, Looked}
 use Rattle.directory.specs.declared.Seen.{Seen}
 use Rattle.directory.specs.declared.Look.{Look}
 use Rattle.directory.proofs.Holding.{and-false, holder-exact}
@@ -96,7 +96,7 @@ pub record Looks (s : List ℕ) (position : ℕ) (p q : Progress) (t : List ℕ)
   pub next : staged q t ≡ readEntry s (staged p before)
   pub ends : seen .end ≤ p .cursor .at
   around : p .cursor .at ≤ position → (w : Rest s 0) → Around s position (p .cursor .at) (p .entities) w
-  passed : position < p .cursor .at → Holds s position (heldBy seen position)
+  passed : position < p .cursor .at → IsHolder s position (heldBy seen position)
 
 module _ (s : List ℕ) (u : Bytes s) (small : length s ≤ limit) (position : ℕ) (p q : Progress) (t : List ℕ) (seen : Seen) (l : Looks s position p q t seen) where
   abbrev table : List ℕ
@@ -245,10 +245,10 @@ module _ (s : List ℕ) (u : Bytes s) (small : length s ≤ limit) (position : �
           passed = λ r w. held-here reached w r;
         })
 
-  pub both-of : further p q ≡ true → (q .cursor .refusal ≡ 0) × (at < q .cursor .at)
+  pub both-of : entryRead p q ≡ true → (q .cursor .refusal ≡ 0) × (at < q .cursor .at)
   both-of e = let (a, b) = and-eq-true-iff _ _ .0 e in (eqb-true _ _ a, ltb-true _ _ b)
 
-  pub looks-again : (e : further p q ≡ true) (x : Progress) (t′ : List ℕ) → staged x t′ ≡ readEntry s (staged q t) → (new : Seen) → new ≡ seenAfter seen p q position → Looks s position q x t′ new
+  pub looks-again : (e : entryRead p q ≡ true) (x : Progress) (t′ : List ℕ) → staged x t′ ≡ readEntry s (staged q t) → (new : Seen) → new ≡ seenAfter seen p q position → Looks s position q x t′ new
   looks-again e x t′ k new j = again (both-of e .0) (both-of e .1) x t′ k (ltb position at) refl new j
 
   -- The end: a refusal, or no whole entry
@@ -273,14 +273,14 @@ module _ (s : List ℕ) (u : Bytes s) (small : length s ≤ limit) (position : �
   ends-whole : entryEnd s at ≤ at → Looked s position at (staged q t) seen
   ends-whole k = record { table = table; walks = rw (same-stage k) (come-end s table u small at g (l .come) (entryEnd s at) refl k); held = λ z. go (ltb position at) refl }
     where
-      go : (b : Bool) → ltb position at ≡ b → Holds s position (heldBy seen position)
+      go : (b : Bool) → ltb position at ≡ b → IsHolder s position (heldBy seen position)
       go true e = l .passed (ltb-true position at e)
       go false e = λ w.
           let a = l .around (ltb-false position at e) w in
           let none : heldBy seen position ≡ unheld = rw (le-leb (seen .end) position (omega (arith, l .ends, ltb-false position at e))) (cond-same (leb (seen .next) (seen .index))) in
           none ∙ sym (a .same-holder ∙ ap (λ (is : List Item). holderFrom (p .entities) (recordsFrom (a .row) (placed at is)) position) (none-left (a .rest) k))
 
-  pub looks-end : further p q ≡ false → Looked s position at (staged q t) seen
+  pub looks-end : entryRead p q ≡ false → Looked s position at (staged q t) seen
   looks-end e = go (eqb (q .cursor .refusal) 0) refl
     where
       stays : q .cursor .refusal ≡ 0 → (b : Bool) → ltb at (entryEnd s at) ≡ b → Looked s position at (staged q t) seen
@@ -288,7 +288,7 @@ module _ (s : List ℕ) (u : Bytes s) (small : length s ≤ limit) (position : �
       stays z true k =
           let h = ltb-true _ _ k in
           let m : q .cursor .at ≡ entryEnd s at = ap (λ (x : Stage). x .state .cursor .at) (led h .goes z .stands) in
-          let v : further p q ≡ true = rw (eq-eqb _ _ z, lt-ltb at (q .cursor .at) (omega arith)) in
+          let v : entryRead p q ≡ true = rw (eq-eqb _ _ z, lt-ltb at (q .cursor .at) (omega arith)) in
           let y : _≡_ {A = ℕ} 0 1 = cc in
           absurd (omega arith)
 
@@ -317,10 +317,10 @@ looks-start s table small position c e q t k = go c (sym e) k
 
 -- The results of the small functions, by their tests
 module _ (p q : Progress) where
-  pub further-refused : (q .cursor .refusal ≡ 0 → ⊥) → false ≡ further p q
+  pub further-refused : (q .cursor .refusal ≡ 0 → ⊥) → false ≡ entryRead p q
   further-refused n = sym (rw (ne-eqb (q .cursor .refusal) 0 n))
 
-  pub further-if : q .cursor .refusal ≡ 0 → ltb (p .cursor .at) (q .cursor .at) ≡ further p q
+  pub further-if : q .cursor .refusal ≡ 0 → ltb (p .cursor .at) (q .cursor .at) ≡ entryRead p q
   further-if z = sym (rw (eq-eqb (q .cursor .refusal) 0 z))
 
   module _ (seen : Seen) (position : ℕ) where

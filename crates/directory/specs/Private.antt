@@ -26,12 +26,12 @@ use Rattle.directory.specs.Holder.{ByteHolder, holder, unheld, unread, h
 use Rattle.table.specs.declared.Answer as declared
 
 -- h is what holds a position of a derived section
-abbrev pub Holds : List ℕ → (position : ℕ) → ByteHolder → Type 0
-Holds s position h = (w : Rest s 0) → h ≡ holderFrom 0 (recordsFrom 0 (placed 0 (w .derivation .items))) position
+abbrev pub IsHolder : List ℕ → (position : ℕ) → ByteHolder → Type 0
+IsHolder s position h = (w : Rest s 0) → h ≡ holderFrom 0 (recordsFrom 0 (placed 0 (w .derivation .items))) position
 
 -- Whether an entry was read between two states of a reading
-abbrev pub further : (p q : Progress) → Bool
-further p q = eqb (q .cursor .refusal) 0 && ltb (p .cursor .at) (q .cursor .at)
+abbrev pub entryRead : (p q : Progress) → Bool
+entryRead p q = eqb (q .cursor .refusal) 0 && ltb (p .cursor .at) (q .cursor .at)
 
 -- What is seen after that entry, which counts if it starts at or before the position
 abbrev pub seenAfter : Seen → (p q : Progress) → (position : ℕ) → Seen
@@ -53,7 +53,7 @@ heldIn look position =
 pub record Looked (s : List ℕ) (position at : ℕ) (g : Stage) (seen : Seen) : Type 0 where
   pub table : List ℕ
   pub walks : Walks s table at g
-  pub held : g .state .cursor .refusal ≡ 0 → Holds s position (heldBy seen position)
+  pub held : g .state .cursor .refusal ≡ 0 → IsHolder s position (heldBy seen position)
 
 -- The offset of a row is past a start and not past an end. A row that the table does not have has the offset 0, past no start
 abbrev pub rowWithin : List ℕ → (start end row : ℕ) → Bool
@@ -109,9 +109,9 @@ recordBefore r [] (suc i) = r
 recordBefore r (x ∷ rs) (suc i) = recordBefore x rs i
 
 -- A lent list with the first n of some records at its start
-abbrev pub put : (records : List Record) → (n : ℕ) → (list : List Record) → List Record
-put rs zero list = list
-put rs (suc n) list = set (put rs n list) n (recordBefore zeros rs (suc n))
+abbrev pub recordsPut : (records : List Record) → (n : ℕ) → (list : List Record) → List Record
+recordsPut rs zero list = list
+recordsPut rs (suc n) list = set (recordsPut rs n list) n (recordBefore zeros rs (suc n))
 
 -- The first n records of a section can be found one after the other, and there is room for them
 pub record Ready (s t : List ℕ) (n room : ℕ) : Type 0 where

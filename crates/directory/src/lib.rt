@@ -14,9 +14,9 @@ ghost use Rattle.section.specs.Entry.{staged};
 ghost use Rattle.directory.specs.Directory.{directoryOf, readingFor, directory, listedOf};
 ghost use Rattle.directory.specs.Holder.{entityAt, holderOf};
 ghost use Rattle.directory.specs.Exact.{ExactDirectory, ExactHolder};
-ghost use Rattle.directory.specs.Private.{rowWithin, Guessed, RowsEnd, Between, After, Ready, put, entityCount, Looked, further, seenAfter, heldIn};
+ghost use Rattle.directory.specs.Private.{rowWithin, Guessed, RowsEnd, Between, After, Ready, recordsPut, entityCount, Looked, entryRead, seenAfter, heldIn};
 
-// The record of an entity: its kind; where its entry starts, which is where its length stands, and how long the entry is, with
+// The record of an entity: its kind; where its entry starts, which is where its length is, and how long the entry is, with
 // the 4 bytes of that length; its first row, and how many rows it has. Rows are numbered from 0.
 #[repr(C)]
 pub struct Record {
@@ -74,7 +74,7 @@ fn entity_count(answer: Answer) -> usize
 // Stores the first n records, one after the other.
 fn fill(section: &[u8], table: &[u32], records: &mut [Record], n: usize)
     requires { ⌜ Ready (now section) (now table) n (length (now records)) ⌝ }
-    ensures { λ _. ⌜ now (records .exit) ≡ put (directoryOf (now (section .entry))) n (now (records .entry)) ⌝ }
+    ensures { λ _. ⌜ now (records .exit) ≡ recordsPut (directoryOf (now (section .entry))) n (now (records .entry)) ⌝ }
 {
     let mut r = Record {
         kind: 0,
@@ -201,7 +201,7 @@ fn look_at(s: &[u8], position: u64, t: &mut [u32]) -> Look
 
 // Whether an entry was read between two states of a reading.
 fn is_further(p: Progress, q: Progress) -> bool
-    ensures { λ r. ⌜ r ≡ further p q ⌝ }
+    ensures { λ r. ⌜ r ≡ entryRead p q ⌝ }
 {
     let c = p.cursor;
     let d = q.cursor;

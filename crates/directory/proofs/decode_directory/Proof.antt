@@ -12,7 +12,7 @@ use base.Logic.{SProp, ent, sep, emp, via, fst∗, snd∗, exE, id⊢}
 use base.Fml.{Lft, Share, GName, Fml, ftrue, fat, flft, fobs, fbor, flent}
 use prog.Memory.{Memory}
 use prog.Routine.{Routine}
-use prog.Wp.{Heap, Calls, Loops, WpFn, Tables}
+use prog.Wp.{Heap, WpFn, Tables}
 use ghost.Atoms.{Atoms, sem}
 use contract.Monad.{Fun, fact}
 use contract.Running.{givenOf, tables, tablesOf}
@@ -52,7 +52,7 @@ use Rattle.table.proofs.Answer as N
 use Rattle.table.proofs.Answer.Laws as N′
 use Rattle.directory.specs.Directory.{directoryOf, readingFor, directory, listedOf}
 use Rattle.directory.specs.Exact.{ExactDirectory}
-use Rattle.directory.specs.Private.{put, Ready, entityCount}
+use Rattle.directory.specs.Private.{recordsPut, Ready, entityCount}
 use Rattle.directory.specs.declared.Record.{Record}
 use Rattle.directory.proofs.Record as T
 use Rattle.directory.proofs.Steps.{says-all, known, and}
@@ -233,8 +233,8 @@ module _ {M : Type 1} (𝓤 : URA M) (H : Heap 𝓤) (A : Atoms 𝓤) (W : Given
         -- [what `fill` asks; what the section owns; the way back; the open borrow; obs; auth; _12; ..]
         calls-at ! (fmOf 𝓤 H (W .laws) 𝓣) (Fill 𝓤 H A memo run) known-fill (to-fill μ δ′ (us .1 .0) n) (and-then ! (load ! (from ! (stop !)) (look ! 28 refl)) (and-then ! (load ! (from ! (stop !)) (look ! 10 refl)) (and-then ! (load ! (from ! (stop !)) (look ! 6 refl)) (and-then ! (load ! (from ! (stop !)) (look ! 16 refl)) (no-more !))))) (λ w₃.
         use1 W (later (some (λ (z : Unit {0}). ((‵ (flft κ₁ q₁) ⊛ (‵ (flft (μ ∷ []) fullShare) ⊛ (‵ (flft κ₃ q₃) ⊛ ‵ ftrue))) ⊛ ‵ (unit .own z (w₃ ∷ []))) ⊛ raw (ensured 𝓤 H A fill.ended (fill.clauses 𝓤 H A memo run) (κ₁, (μ ∷ [], (κ₃, tt))) (y₁, (x δ′ (us .1 .0), (y₃, (n, tt)))) tt z)))) (id⊢ 𝓤 _) $ await ! tt $ pick ! (λ z.
-        split ! $ move ! (1 ∷ []) $ use1 W (some (λ (zs : Unit {0} × (Unit {0} × (List Record × (Unit {0} × Unit {0})))). ‵ (lasts fill.ended (κ₁, (μ ∷ [], (κ₃, tt))) (y₁, (x δ′ (us .1 .0), (y₃, (n, tt)))) zs) ⊛ raw (fact 𝓤 (zs .1 .1 .0 ≡ put (directoryOf (y₁ .now)) n (y₃ .now))))) (id⊢ 𝓤 _) $ pick ! (λ zs.
-        split ! $ move ! (1 ∷ []) $ heard ! (zs .1 .1 .0 ≡ put (directoryOf (y₁ .now)) n (y₃ .now)) (λ g. fsplit ! $ move ! (1 ∷ []) $ fsplit ! $ move ! (1 ∷ []) $ fsplit ! $ fsplit ! $ move ! (1 ∷ []) $ feqL ! (λ m.
+        split ! $ move ! (1 ∷ []) $ use1 W (some (λ (zs : Unit {0} × (Unit {0} × (List Record × (Unit {0} × Unit {0})))). ‵ (lasts fill.ended (κ₁, (μ ∷ [], (κ₃, tt))) (y₁, (x δ′ (us .1 .0), (y₃, (n, tt)))) zs) ⊛ raw (fact 𝓤 (zs .1 .1 .0 ≡ recordsPut (directoryOf (y₁ .now)) n (y₃ .now))))) (id⊢ 𝓤 _) $ pick ! (λ zs.
+        split ! $ move ! (1 ∷ []) $ heard ! (zs .1 .1 .0 ≡ recordsPut (directoryOf (y₁ .now)) n (y₃ .now)) (λ g. fsplit ! $ move ! (1 ∷ []) $ fsplit ! $ move ! (1 ∷ []) $ fsplit ! $ fsplit ! $ move ! (1 ∷ []) $ feqL ! (λ m.
         move ! (4 ∷ []) $ split ! $ move ! (1 ∷ []) $ peeks ! unit (Is unit) (shows 𝓤 H A unit) z (w₃ ∷ []) (λ isz.
         land ! (from ! (stop !)) (init ! 19 refl (unit-laws .lawful 𝓤 H A W .typed z _ isz .0)) $ drop ! $
         -- the lifetime is ended, the table comes back, and its borrow is closed
@@ -244,7 +244,7 @@ module _ {M : Type 1} (𝓤 : URA M) (H : Heap 𝓤) (A : Atoms 𝓤) (W : Given
         assigns ! (of-opd ! (load ! (from ! (stop !)) (look ! 23 refl))) (from ! (stop !)) (init ! 31 refl typed) $
         returns ! (look ! 31 refl) $ forget ! 7 refl $ forget ! 9 refl $ forget ! 11 refl $ forget ! 13 refl $ forget ! 15 refl $ forget ! 17 refl $ forget ! 19 refl $ forget ! 21 refl $ forget ! 23 refl $ forget ! 25 refl $ forget ! 27 refl $ forget ! 29 refl $ forget ! 31 refl $
         move ! (31 ∷ 32 ∷ []) $ free1 ! $ move ! (29 ∷ 30 ∷ []) $ free1 ! $ move ! (27 ∷ 28 ∷ []) $ free1 ! $ move ! (25 ∷ 26 ∷ []) $ free1 ! $ move ! (23 ∷ 24 ∷ []) $ free1 ! $ move ! (21 ∷ 22 ∷ []) $ free1 ! $ move ! (19 ∷ 20 ∷ []) $ free1 ! $ move ! (17 ∷ 18 ∷ []) $ free1 ! $ move ! (15 ∷ 16 ∷ []) $ free1 ! $ move ! (13 ∷ 14 ∷ []) $ free1 ! $ move ! (11 ∷ 12 ∷ []) $ free1 ! $ move ! (9 ∷ 10 ∷ []) $ free1 ! $ move ! (7 ∷ 8 ∷ []) $ free1 ! $ free0 ! $
-        by ! (exits r w is (us .1 .0) l (zs .1 .1 .0) m (both (us .1 .0) r (zs .1 .1 .0) (e .1 .bytes) (listed (y₁ .now) ts (y₃ .now) (us .1 .0) r (e .0) (zs .1 .1 .0) (g ∙ ap (λ (k : ℕ). put (directoryOf (y₁ .now)) k (y₃ .now)) c)))))))))))))))))))))))))))))))))))))
+        by ! (exits r w is (us .1 .0) l (zs .1 .1 .0) m (both (us .1 .0) r (zs .1 .1 .0) (e .1 .bytes) (listed (y₁ .now) ts (y₃ .now) (us .1 .0) r (e .0) (zs .1 .1 .0) (g ∙ ap (λ (k : ℕ). recordsPut (directoryOf (y₁ .now)) k (y₃ .now)) c)))))))))))))))))))))))))))))))))))))
 
 module _ {M : Type 1} (𝓤 : URA M) (H : Heap 𝓤) (A : Atoms 𝓤) (W : Given 𝓤 H A) (memo : Memory → SProp 𝓤) (run : Routine → Fun 𝓤) (𝓣 : Tables 𝓤 H) (known-read : Triple 𝓤 (𝓣 .C #directory·read-for) (Read 𝓤 H A memo run)) (known-ent : Triple 𝓤 (𝓣 .C #directory·entity-count) (Ent 𝓤 H A memo run)) (known-fill : Triple 𝓤 (𝓣 .C #directory·fill) (Fill 𝓤 H A memo run)) where
   walks : Walks 𝓤 H A f.ended stayed (WpFn 𝓤 H (𝓣 .C) (𝓣 .Λ) code.function) (f.clauses 𝓤 H A memo run)

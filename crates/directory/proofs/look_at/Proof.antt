@@ -37,16 +37,16 @@ loop-less : tie.Need-loop-less Inv-loop μ-loop
 loop-less c =
     let start = c .before .before .before .before .before .before .before .before .before .before .before .before .before .before .before in
     let loop = c .before .before .before .before .before .before .before .loop in
-    let further = sym (c .before .before .before .before .before .before .is-further .ensures) ∙ c .before .before .before .before .before .if1 .taken in
-    let moved = both-of (now (start .args .s)) (start .pre .1) (start .pre .0) (start .args .position) (loop .p) (loop .q) (loop .t) (loop .seen) (loop .inv .0) further in
+    let entryRead = sym (c .before .before .before .before .before .before .is-further .ensures) ∙ c .before .before .before .before .before .if1 .taken in
+    let moved = both-of (now (start .args .s)) (start .pre .1) (start .pre .0) (start .args .position) (loop .p) (loop .q) (loop .t) (loop .seen) (loop .inv .0) entryRead in
     nearer (now (start .args .s)) (start .pre .1) (start .pre .0) (start .args .position) (loop .p) (loop .q) (loop .t) (loop .seen) (loop .inv .0) (moved .0) (moved .1)
 
 loop-again : tie.Need-loop-again Inv-loop μ-loop
 loop-again c =
     let start = c .before .before .before .before .before .before .before .before .before .before .before .before .before .before .before in
     let loop = c .before .before .before .before .before .before .before .loop in
-    let further = sym (c .before .before .before .before .before .before .is-further .ensures) ∙ c .before .before .before .before .before .if1 .taken in
-    (looks-again (now (start .args .s)) (start .pre .1) (start .pre .0) (start .args .position) (loop .p) (loop .q) (loop .t) (loop .seen) (loop .inv .0) further _ _ (c .before .before .read-entry2 .ensures) _ (c .before .before .before .before .seen-after .ensures), c .before .before .read-entry2 .kept .1 .1 .0 ∙ loop .inv .1)
+    let entryRead = sym (c .before .before .before .before .before .before .is-further .ensures) ∙ c .before .before .before .before .before .if1 .taken in
+    (looks-again (now (start .args .s)) (start .pre .1) (start .pre .0) (start .args .position) (loop .p) (loop .q) (loop .t) (loop .seen) (loop .inv .0) entryRead _ _ (c .before .before .read-entry2 .ensures) _ (c .before .before .before .before .seen-after .ensures), c .before .before .read-entry2 .kept .1 .1 .0 ∙ loop .inv .1)
 
 same-length : tie.Need-same-length Inv-loop μ-loop
 same-length c = c .before .before .before .loop .inv .1 ∙ c .before .before .before .before .before .before .read-entry .kept .1 .1 .0

@@ -1,4 +1,6 @@
 // The writer of the parts of entities that contain no type: positioning refs, to-SQL, the attributes of functions.
+#![tactic(auto)]
+
 ghost use Rattle.std.specs.Prelude.{◌≡◌};
 ghost use Rattle.layout.specs.Entities.{PositioningRef, PositioningRefList, ToSqlConfig, ExternArg, ExternArgList, SearchPath, StrList};
 ghost use Rattle.layout.specs.Entities.{Operator, OptionOperator, Cast, OptionCast};

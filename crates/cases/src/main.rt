@@ -34,6 +34,8 @@
 //
 // A case that differs is printed, and below it what was answered. At the end stand how many cases were run and how many differ,
 // and the tally of the sections accepted and refused.
+#![tactic(auto)]
+
 ghost use Rattle.std.specs.Prelude.{◌≤◌, length};
 
 use directory::Holder;

@@ -1,4 +1,6 @@
 // The digits of a number in base ten.
+#![tactic(auto)]
+
 ghost use Rattle.std.specs.Prelude.{◌++◌, ◌≡◌, ◌-◌, ◌%◌, length, replicate};
 ghost use Rattle.decimal.specs.Decimal.{digit, decimal};
 

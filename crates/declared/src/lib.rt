@@ -1,4 +1,6 @@
 // The declarations of custom SQL.
+#![tactic(auto)]
+
 ghost use Rattle.std.specs.Prelude.{◌≡◌};
 ghost use Rattle.layout.specs.Entities.{SqlDeclared, SqlDeclaredList, DeclaredType, DeclaredSql};
 ghost use Rattle.leaf.specs.State.{read_state};

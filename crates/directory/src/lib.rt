@@ -1,4 +1,6 @@
 // The directory of a section: a record for each entity. And what holds a byte: the entity whose entry contains it.
+#![tactic(auto)]
+
 ghost use Rattle.std.specs.Prelude.{◌≡◌, ◌≤◌, length};
 ghost use Rattle.layout.specs.Answers.{limit};
 ghost use Rattle.layout.specs.Theorems.{Bytes};

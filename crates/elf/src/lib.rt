@@ -1,4 +1,6 @@
 // A section of a shared object, by its name: a part of the file. The file is ELF, 64-bit and little-endian, and of any length.
+#![tactic(auto)]
+
 ghost use Rattle.std.specs.Prelude.{◌+◌, ◌-◌, ◌<◌, ◌≤◌, ◌≡◌, length};
 ghost use Rattle.place.specs.Place.{found_part, part_of, number_in, place_in};
 ghost use Rattle.elf.specs.Elf.{little, e_shnum, of_file, section_in, name_table, SectionTables};

@@ -1,4 +1,6 @@
 // The nine entities, and one payload alone.
+#![tactic(auto)]
+
 ghost use Rattle.std.specs.Prelude.{◌≡◌};
 ghost use Rattle.layout.specs.Entities.{FinalizeModify, OptionFinalizeModify};
 ghost use Rattle.layout.specs.Entities.{ParallelOption, OptionParallelOption, OptionUsedType, OptionAggregateTypeList};

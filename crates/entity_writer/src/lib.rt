@@ -1,4 +1,6 @@
 // The writer of the nine entities, and of one payload alone.
+#![tactic(auto)]
+
 ghost use Rattle.std.specs.Prelude.{◌≡◌, length};
 ghost use Rattle.layout.specs.Entities.{FinalizeModify, OptionFinalizeModify};
 ghost use Rattle.layout.specs.Entities.{ParallelOption, OptionParallelOption, OptionUsedType, OptionAggregateTypeList};

@@ -1,5 +1,7 @@
 // The first pass over the rows of a writing: a writer that takes a kind, a tag, a flag, a number, a count or a text from the next
 // row and adds up the length.
+#![tactic(auto)]
+
 ghost use Rattle.std.specs.Prelude.{◌≡◌, ◌+◌, ◌^◌, ◌<◌, ◌≤◌, leb, length};
 ghost use Rattle.layout.specs.Layout.{Kind, Tag, Flag, Number, Count, one};
 ghost use Rattle.layout.specs.Layout as layouts;

@@ -1,4 +1,6 @@
 // The framing of a section: entries of a length and a payload, then padding; and the sentinel, a payload that yields nothing.
+#![tactic(auto)]
+
 ghost use Rattle.std.specs.Prelude.{◌≤◌, true, false, ◌&&◌, ◌↔◌, ◌≡◌, length, drop};
 ghost use Rattle.layout.specs.Reading.{refuse};
 ghost use Rattle.raw_bytes.specs.Bytes.{same};

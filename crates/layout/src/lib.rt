@@ -1,5 +1,6 @@
 // The constants of the format. Those of src/section.rs, which tell the parts of an entity apart, are wider than the bytes they
 // are compared with, since a cursor holds the value of any leaf.
+#![tactic(auto)]
 
 // The most bytes that are read, and the most that are written.
 pub const LIMIT: usize = 16777216;

@@ -1,4 +1,6 @@
 // The leaves: a cursor over a payload that reads a flag, a number, a tag, a count or a text, and stores its row.
+#![tactic(auto)]
+
 ghost use Rattle.std.specs.Prelude.{[], ◌∷◌, ◌≡◌};
 ghost use Rattle.layout.specs.Layout.{Kind, Tag, Flag, Number, Count, one, text};
 ghost use Rattle.layout.specs.Entities.{OptionStr, OptionU32};

@@ -1,4 +1,6 @@
 // The lengths of values, before they are written. A length above the limit is refused, and no sum wraps.
+#![tactic(auto)]
+
 ghost use Rattle.std.specs.Prelude.{◌≡◌, ◌+◌, ◌≤◌, length};
 ghost use Rattle.layout.specs.Layout.{Tag, Flag, Number, string};
 ghost use Rattle.layout.specs.Written.{plain_bytes, leaf_bytes};

@@ -1,4 +1,6 @@
 // The listing program: it reads a section from standard input and prints what its reading answers.
+#![tactic(auto)]
+
 ghost use Rattle.std.specs.Prelude.{◌≡◌, ◌+◌, length};
 ghost use Rattle.listing.specs.Listing.{most_bytes, most_listed};
 

@@ -1,5 +1,7 @@
 // The listing program for shared objects: it reads one from standard input and prints what the reading of its schema section
 // answers.
+#![tactic(auto)]
+
 ghost use Rattle.std.specs.Prelude.{◌≡◌, length};
 ghost use Rattle.listing.specs.Listing.{most_listed};
 

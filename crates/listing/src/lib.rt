@@ -1,4 +1,6 @@
 // The listing of a section: what its reading answers, as lines of text.
+#![tactic(auto)]
+
 ghost use Rattle.std.specs.Prelude.{[], ◌∷◌, map, ◌≡◌, ◌+◌, ◌*◌, ◌^◌, ◌≤◌, ◌<◌, length};
 ghost use Rattle.layout.specs.Written.{row_width};
 ghost use Rattle.layout.specs.Answers.{whole_rows};

@@ -1,4 +1,6 @@
 // The metadata of a type: how it maps to SQL as an argument and as a result.
+#![tactic(auto)]
+
 ghost use Rattle.std.specs.Prelude.{◌≢◌, ◌≡◌};
 ghost use Rattle.layout.specs.Entities.{SqlMapping, SqlArrayMapping, Numeric, Returns, SqlMappingList, ArgumentSql, ReturnSql};
 ghost use Rattle.layout.specs.Entities.{ArgumentError, ReturnsError, FunctionMetadataType, OptionResolution, Resolution, TypeOrigin};

@@ -1,4 +1,6 @@
 // The SQL text of a Numeric mapping.
+#![tactic(auto)]
+
 ghost use Rattle.std.specs.Prelude.{◌≡◌, ◌+◌, ◌≤◌, length};
 ghost use Rattle.decimal.specs.Decimal.{decimal};
 ghost use Rattle.paste.specs.Pasted.{pasted};

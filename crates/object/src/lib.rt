@@ -1,4 +1,6 @@
 // A shared object: the reading of the section that it has by a name, and its listing.
+#![tactic(auto)]
+
 ghost use Rattle.std.specs.Prelude.{◌≡◌, ◌≤◌, length};
 ghost use Rattle.table.specs.Answers.{result_of};
 ghost use Rattle.listing.specs.Listing.{most_listed, at_start};

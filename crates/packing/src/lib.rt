@@ -1,4 +1,6 @@
 // How an answer is packed into four numbers: a refusal's number and place, or 0 and 0; then what is answered, or 0 and 0.
+#![tactic(auto)]
+
 ghost use Rattle.std.specs.Prelude.{◌≡◌};
 ghost use Rattle.text.specs.Kept.{text_answer};
 ghost use Rattle.table.specs.Answers.{answer_of};

@@ -1,5 +1,7 @@
 // Texts as parts of the caller's bytes: the text of a row, its kept name, and the SQL name of a declaration; and where in a declared
 // name the SQL name starts, by a walk that may be done in parts.
+#![tactic(auto)]
+
 ghost use Rattle.std.specs.Prelude.{List, ◌++◌, ◌≡◌, ℕ, ◌+◌, ◌≤◌, length};
 ghost use Rattle.place.specs.Place.{found_part, part_of, number_in, place_in};
 ghost use Rattle.parts.specs.Parts.{row_text, kept_name, kept_name_in, ExactKeptName, sql_name, sql_name_in};

@@ -1,4 +1,6 @@
 // The path report: how many pairs of entities repeat a path.
+#![tactic(auto)]
+
 ghost use Rattle.std.specs.Prelude.{[], ◌∷◌, ◌≡◌, ◌+◌, ◌*◌, ◌<◌, ◌≤◌};
 ghost use Rattle.layout.specs.Answers.{limit};
 ghost use Rattle.runs.specs.Runs.{kind_and_text, equals};

@@ -1,5 +1,7 @@
 // The functions that programs in other languages call. Each hands its work on and adds nothing but the packing of the answer:
 // four numbers, of which the first two are a refusal's number and place, or 0 and 0.
+#![tactic(auto)]
+
 ghost use Rattle.std.specs.Prelude.{true, ◌↔◌, ◌≡◌, length};
 ghost use Rattle.text.specs.Rfc3629.{Utf8};
 ghost use Rattle.text.specs.Walk.{utf8};

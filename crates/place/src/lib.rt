@@ -1,4 +1,6 @@
 // Parts of the caller's bytes: where one is, and the part itself. Nothing is copied.
+#![tactic(auto)]
+
 ghost use Rattle.std.specs.Prelude.{◌≡◌, ◌+◌};
 ghost use Rattle.layout.specs.Reading.{refuse};
 ghost use Rattle.place.specs.Place.{between, found_part, part_of, number_in, place_in};

@@ -1,4 +1,6 @@
 // Bytes: reading a number from them, storing one in them, and comparing two slices.
+#![tactic(auto)]
+
 ghost use Rattle.std.specs.Prelude.{◌+◌, ◌<◌, ◌≤◌, ◌≡◌, length};
 ghost use Rattle.layout.specs.Written.{four};
 ghost use Rattle.layout.specs.Reading.{number_at};

@@ -1,5 +1,7 @@
 // Pairs of equal texts of one kind: the marks of the texts are sorted, and runs of equal ones are counted. A mark is the kind and
 // the place of a text in one number.
+#![tactic(auto)]
+
 ghost use Rattle.std.specs.Prelude.{◌≡◌, ◌+◌, ◌/◌, ◌<◌, ◌≤◌, length, get_or, drop};
 ghost use Rattle.layout.specs.Answers.{limit};
 ghost use Rattle.raw_bytes.specs.Bytes.{same};

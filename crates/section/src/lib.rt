@@ -1,4 +1,6 @@
 // The whole section: its framing, then its payloads one after the other, into a lent table.
+#![tactic(auto)]
+
 ghost use Rattle.std.specs.Prelude.{◌+◌, ◌≤◌, ◌≡◌, length};
 ghost use Rattle.layout.specs.Answers.{limit};
 ghost use Rattle.layout.specs.Theorems.{Bytes};

@@ -1,4 +1,6 @@
 // The writer of a section of one or more entities, from rows: entries without sentinel or padding.
+#![tactic(auto)]
+
 ghost use Rattle.std.specs.Prelude.{◌≡◌, length};
 ghost use Rattle.layout.specs.Answers.{whole_rows};
 ghost use Rattle.length.specs.Length.{length_of};

@@ -1,4 +1,6 @@
 // The SQL text of a mapping: a part of the caller's bytes, or written to a lent buffer.
+#![tactic(auto)]
+
 ghost use Rattle.std.specs.Prelude.{◌≡◌, ◌+◌, ◌*◌, ◌≤◌, length};
 ghost use Rattle.layout.specs.Written.{row_width, value_at};
 ghost use Rattle.leaf.specs.State.{new_cursor, seek};

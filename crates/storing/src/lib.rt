@@ -1,4 +1,6 @@
 // The second pass over the rows of a writing, once nothing is refused: their bytes are stored, row after row, or as entries.
+#![tactic(auto)]
+
 ghost use Rattle.std.specs.Prelude.{◌≡◌, [], ◌∷◌, ◌+◌, ◌%◌, ◌<◌, ◌≤◌, length};
 ghost use Rattle.layout.specs.Written.{four};
 ghost use Rattle.layout.specs.Answers.{whole_rows};

@@ -1,4 +1,6 @@
 // The lent table: its rows, clearing it, and the answers that come with it.
+#![tactic(auto)]
+
 ghost use Rattle.std.specs.Prelude.{◌≡◌};
 ghost use Rattle.layout.specs.Answers.{refusal};
 ghost use Rattle.table.specs.Table.{row_of, cleared};

@@ -1,4 +1,6 @@
 // The tally of whole-section readings.
+#![tactic(auto)]
+
 ghost use Rattle.std.specs.Prelude.{◌≡◌};
 ghost use Rattle.table.specs.Answers.{answer_of, result_of};
 ghost use Rattle.section.specs.Section.{reading};

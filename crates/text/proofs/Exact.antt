@@ -37,8 +37,8 @@ ascending n [] = true
 ascending n (lo to hi ⇒ q ∷ xs) = leb n lo && (leb lo hi && ascending (suc hi) xs)
 
 -- Of ascending ranges, the one that contains the byte is followed, and the byte is at least n
-taken : (n b : ℕ) {lo hi : ℕ} {q : State} {xs : List Transition} → ascending n xs ≡ true → Among (lo to hi ⇒ q) xs → In (lo to hi) b → (follow xs b ≡ q) × (n ≤ b)
-taken n b {lo} {hi} {q} up (here {xs = xs}) i =
+taken : {lo hi : ℕ} {q : State} {xs : List Transition} (n b : ℕ) → ascending n xs ≡ true → Among (lo to hi ⇒ q) xs → In (lo to hi) b → (follow xs b ≡ q) × (n ≤ b)
+taken {lo} {hi} {q} n b up (here {xs = xs}) i =
     let low = ((and-eq-true_iff (leb n lo) (leb lo hi && ascending (suc hi) xs)).0 up).0 in
     (simp (inside (lo to hi) b i), omega (arith, leb-true n lo low))
 taken n b up (there {y = l to h ⇒ p} {xs = xs} m) i =

@@ -1,5 +1,7 @@
 // Whether bytes are UTF-8, as RFC 3629 defines it: the check that Rust makes with std::str::from_utf8; and how much of such a name
 // the server, PostgreSQL, keeps. And a walk that also finds the pairs of colons in a text.
+#![tactic(auto)]
+
 ghost use Rattle.std.specs.Prelude.{◌≡◌, ◌+◌, ◌<◌, ◌≤◌, true, ◌↔◌, length};
 ghost use Rattle.text.specs.Rfc3629.{tail, Utf8};
 ghost use Rattle.text.specs.Walk.{within, step, wanted_after, utf8};
@@ -14,7 +16,7 @@ use tables::{CLASS, NEXT};
 
 // Where a walk stands: at the start of a character, one to three continuation bytes before its end, after one of the four lead
 // bytes that narrow the second byte, or past a wrong byte.
-#[derive(Drop)]
+#[derive(Clone, Copy)]
 pub enum State {
     Start,
     One,

@@ -1,4 +1,6 @@
 // Used types, and what contains them: the arguments and returns of functions, the types of aggregates.
+#![tactic(auto)]
+
 ghost use Rattle.std.specs.Prelude.{◌≡◌};
 ghost use Rattle.layout.specs.Layout.{◌then◌};
 ghost use Rattle.layout.specs.Forms.{times};

@@ -1,5 +1,7 @@
 // The writer of a type's metadata, from rows: how it maps to SQL as an argument and as a result. Each function takes the rows
 // of its part; once all are taken and nothing is refused, their bytes are stored.
+#![tactic(auto)]
+
 ghost use Rattle.std.specs.Prelude.{◌≡◌, length};
 ghost use Rattle.layout.specs.Entities.{SqlMapping, SqlArrayMapping, Numeric, Returns, SqlMappingList, ArgumentSql, ReturnSql};
 ghost use Rattle.layout.specs.Forms.{times};

@@ -1,0 +1,60 @@
+-- The low six bits of x are the code of the state after the first i bytes, and no pair is open there.
+use Rattle.std.proofs.Common.{ℕ, ◌+◌, ◌-◌, ◌%◌, take, ap, ◌∙◌, rules, eq-eqb}
+use Rattle.text.specs.Private.{code}
+use Rattle.text.specs.Walk.{wanted_after}
+use Rattle.text.proofs.Codes.{code_low, walked, ended}
+use Rattle.text.proofs.Colons.{closed_other, closed_pair, closed_two, closed_end, last_byte}
+use Rattle.text.proofs.walk_pairs_by.Goals as goal
+
+pub loop-i-init : goal.loop-i-init
+loop-i-init c =
+    let args = c.args in
+    (search rules, search rules, λ p e. ap (λ (n : ℕ). n % 64) e ∙ code_low (wanted_after p (take args.p.at args.s.now)), λ o z. z)
+
+pub next_of-x-requires : goal.next_of-x-requires
+next_of-x-requires c = c.requires.encodes
+
+pub returns-then-i-n : goal.returns-then-i-n
+returns-then-i-n c =
+    let args = c.args in
+    let s = args.s.now in
+    let loop = c.loop-i in
+    let next_of = c.next_of-x in
+    let code_of_lem = c.code_of-x in
+    record {
+      states = λ p e. c.state_of.ensures (wanted_after p s) (ended p s (loop.i + 1) next_of.result (search rules) (walked p s loop.i loop.x next_of.result (search rules) next_of.ensures (loop.invariant.2 p (code_of_lem.ensures ∙ ap code e))));
+      colons = λ o z. rw (eq-eqb _ 0x3A c.if-c-eq58.true) at (last_byte s o loop.i loop.end (loop.invariant.3 o z) (search rules));
+    }
+
+pub next_of-x-requires-then-c-eq58 : goal.next_of-x-requires-then-c-eq58
+next_of-x-requires-then-c-eq58 c = c.requires.encodes
+
+pub loop-i-preserved-then-d-eq58 : goal.loop-i-preserved-then-d-eq58
+loop-i-preserved-then-d-eq58 c =
+    let s = c.args.s.now in
+    let loop = c.loop-i in
+    let next_of = c.next_of-x in
+    (search rules, search rules, λ p e. walked p s (loop.i + 1) next_of.result _ (search rules) c.next_of-x-then-c-eq58.ensures (walked p s loop.i loop.x next_of.result (search rules) next_of.ensures (loop.invariant.2 p e)), λ o z. closed_pair s o loop.i loop.end (loop.invariant.3 o z) (search rules) c.if-c-eq58.true c.if-d-eq58.true)
+
+pub loop-i-preserved-else-d-eq58 : goal.loop-i-preserved-else-d-eq58
+loop-i-preserved-else-d-eq58 c =
+    let s = c.args.s.now in
+    let loop = c.loop-i in
+    let next_of = c.next_of-x in
+    (search rules, search rules, λ p e. walked p s (loop.i + 1) next_of.result _ (search rules) c.next_of-x-then-c-eq58.ensures (walked p s loop.i loop.x next_of.result (search rules) next_of.ensures (loop.invariant.2 p e)), λ o z. closed_two s o loop.i loop.end (loop.invariant.3 o z) (search rules) c.if-d-eq58.false)
+
+pub loop-i-preserved : goal.loop-i-preserved
+loop-i-preserved c =
+    let s = c.args.s.now in
+    let loop = c.loop-i in
+    (search rules, search rules, λ p e. walked p s loop.i loop.x _ (search rules) c.next_of-x.ensures (loop.invariant.2 p e), λ o z. closed_other s o loop.i loop.end (loop.invariant.3 o z) (search rules) c.if-c-eq58.false)
+
+pub returns : goal.returns
+returns c =
+    let s = c.args.s.now in
+    let loop = c.loop-i in
+    let code_of_lem = c.code_of-x in
+    record {
+      states = λ p e. c.state_of-2.ensures (wanted_after p s) (ended p s loop.i loop.x (search rules) (loop.invariant.2 p (code_of_lem.ensures ∙ ap code e)));
+      colons = λ o z. closed_end s o loop.i loop.end (loop.invariant.3 o z) (search rules);
+    }

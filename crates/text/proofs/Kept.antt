@@ -1,9 +1,9 @@
 -- Character boundaries: the greatest at or below a number, and how a byte shows one.
-use Rattle.std.proofs.Common.{◌≡◌, ℕ, zero, suc, ◌+◌, ◌-◌, ◌<◌, ◌≤◌, Bool, true, false, cond, not, eqb, leb, ◌↔◌, List, ◌∷◌, ◌++◌, length, get_or, take, drop, sym, refl, ap, ◌∙◌, subst, zero-le, arith, length-append, length-take-le, eqb-true, le-leb, leb-true}
+use Rattle.std.proofs.Common.{◌≡◌, ℕ, zero, suc, ◌-◌, ◌<◌, ◌≤◌, Bool, true, false, cond, not, eqb, leb, ◌↔◌, List, ◌∷◌, ◌++◌, length, get_or, take, drop, sym, refl, ap, ◌∙◌, subst, zero-le, arith, length-append, length-take-le, eqb-true, le-leb, leb-true}
 use mathlib.Core.Bool.{and-eq-true_iff, false≢true}
 use lib.Seq.{take-length, take-append_seam, split_at}
 use borrow.Author.Tests.{lt-leb, eqb-false}
-use Rattle.text.specs.Rfc3629.{◌to◌, tail, Utf8, none}
+use Rattle.text.specs.Rfc3629.{tail, Utf8, none}
 use Rattle.text.specs.Walk.{State, start, tail_1, tail_2, tail_3, after_e0, after_ed, after_f0, after_f4, failed, transitions, within, step, wanted_after, accepting, utf8}
 use Rattle.text.specs.Kept.{most_kept, CharBoundary, ServerKeeps, is_boundary, boundary_up_to, kept_length, TextAnswer, text_kept, no_text, check_text, ExactCheck}
 use Rattle.text.specs.Theorems.{KeptExact, KeptWhole, KeptLongest, CheckExact}

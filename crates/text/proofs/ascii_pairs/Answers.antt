@@ -1,5 +1,5 @@
 -- No pair is open after the first i bytes, which are ASCII from a on.
-use Rattle.std.proofs.Common.{◌≡◌, ℕ, ◌+◌, ◌-◌, ◌<◌, List, get_or, arith, rules}
+use Rattle.std.proofs.Common.{◌≡◌, ℕ, ◌+◌, ◌<◌, List, get_or, arith, rules}
 use lib.Bits.{bit_or}
 use Rattle.text.specs.Private.{Ascii}
 use Rattle.text.proofs.Blocks.{ascii_more}

@@ -1,6 +1,5 @@
 -- The blocks passed so far are ASCII; the last one may overlap them.
 use Rattle.std.proofs.Common.{◌+◌, ◌-◌, length, arith, rules}
-use borrow.Author.Tests.{not-false}
 use Rattle.text.proofs.Blocks.{ascii_join}
 use Rattle.text.proofs.ascii_prefix.Goals as goal
 
@@ -20,7 +19,7 @@ pub loop-i-preserved : goal.loop-i-preserved
 loop-i-preserved c =
     let args = c.args in
     let i = c.loop-i.i in
-    (search rules, ascii_join args.s.now 0 i i (i + 64) (omega arith) c.loop-i.invariant.1 (c.is_ascii.ensures (not-false _ c.if-not-is_ascii.false)))
+    (search rules, ascii_join args.s.now 0 i i (i + 64) (omega arith) c.loop-i.invariant.1 (c.is_ascii.ensures c.if-not-is_ascii.false))
 
 pub returns-then-is_ascii : goal.returns-then-is_ascii
 returns-then-is_ascii c =

@@ -1,5 +1,5 @@
 -- No byte read so far is above the bits collected so far.
-use Rattle.std.proofs.Common.{ℕ, ◌+◌, ◌-◌, ◌<◌, ◌≤◌, List, get_or, le_trans, lt_of_le_of_lt, arith, rules, below_more, ltb-true}
+use Rattle.std.proofs.Common.{ℕ, ◌+◌, ◌<◌, ◌≤◌, List, get_or, le_trans, lt_of_le_of_lt, arith, rules, below_more, ltb-true}
 use lib.Bits.{bit_or}
 use Rattle.text.proofs.Words.{or_l, or_r}
 use Rattle.text.proofs.is_ascii.Goals as goal

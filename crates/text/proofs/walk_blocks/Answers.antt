@@ -1,6 +1,5 @@
 -- x is the code of the state after the first i bytes, whether a block was walked or skipped.
-use Rattle.std.proofs.Common.{◌+◌, ◌-◌, arith, rules}
-use borrow.Author.Tests.{not-false}
+use Rattle.std.proofs.Common.{◌+◌, arith, rules}
 use Rattle.text.proofs.Blocks.{passed}
 use Rattle.text.proofs.walk_blocks.Goals as goal
 
@@ -18,7 +17,7 @@ pub loop-i-preserved : goal.loop-i-preserved
 loop-i-preserved c =
     let args = c.args in
     let i = c.loop-i.i in
-    (search rules, λ p e. passed args.s.now i (i + 64) c.loop-i.x (omega arith) (omega arith) c.if-x-ne-START.false (c.is_ascii.ensures (not-false _ c.if-not-is_ascii.false)) p (c.loop-i.invariant.1 p e))
+    (search rules, λ p e. passed args.s.now i (i + 64) c.loop-i.x (omega arith) (omega arith) c.if-x-ne-START.false (c.is_ascii.ensures c.if-not-is_ascii.false) p (c.loop-i.invariant.1 p e))
 
 pub walk_bytes-requires : goal.walk_bytes-requires
 walk_bytes-requires c =

@@ -1,5 +1,5 @@
 -- The low six bits of x are the code of the state after the first i bytes.
-use Rattle.std.proofs.Common.{◌≡◌, ℕ, ◌-◌, ◌%◌, take, ap, ◌∙◌, arith, rules}
+use Rattle.std.proofs.Common.{◌≡◌, ℕ, ◌%◌, take, ap, ◌∙◌, arith, rules}
 use Rattle.text.specs.Walk.{wanted_after}
 use Rattle.text.proofs.Codes.{code_low, walked}
 use Rattle.text.proofs.walk_bytes.Goals as goal

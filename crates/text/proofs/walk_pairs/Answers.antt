@@ -1,5 +1,5 @@
 -- Over ASCII the state ascii_stays the same; where a byte is left, or all that is not ASCII, the walk goes on from there.
-use Rattle.std.proofs.Common.{◌≡◌, ℕ, ◌+◌, ◌≤◌, List, length, sym, ◌∙◌, arith, rules, ltb-true}
+use Rattle.std.proofs.Common.{◌≡◌, ℕ, ◌+◌, ◌≤◌, List, length, sym, ◌∙◌, arith, rules}
 use lib.Seq.{take-length}
 use Rattle.text.specs.declared.ColonWalk.{ColonWalk}
 use Rattle.text.specs.Walk.{State}
@@ -20,7 +20,7 @@ pub returns-then-at-n : goal.returns-then-at-n
 returns-then-at-n c =
     let s = c.args.s.now in
     let passed = c.ascii_pairs-p in
-    let (h, (f, g)) = passed.ensures in
+    let record { a_le_at = h; ascii = f; stays_closed = g } = passed.ensures in
     let z = sym c.code_of.ensures ∙ c.if-code_of-ne-START.false in
     let n : passed.result.at ≡ length s = search rules in
     onward h.0 h.1 f g z (record {
@@ -32,12 +32,12 @@ pub returns-then-s-at-lt128 : goal.returns-then-s-at-lt128
 returns-then-s-at-lt128 c =
     let s = c.args.s.now in
     let passed = c.ascii_pairs-p in
-    let (h, (f, g)) = passed.ensures in
+    let record { a_le_at = h; ascii = f; stays_closed = g } = passed.ensures in
     let z = sym c.code_of.ensures ∙ c.if-code_of-ne-START.false in
     let at = passed.result.at in
     let n : at + 1 ≡ length s = search rules in
     onward h.0 h.1 f g z (record {
-      states = λ p k. rw (n, take-length s) at (ascii_stays s p _ at (at + 1) (omega arith) (omega (arith, n)) (ascii_more s at at (λ j l u. absurd (omega arith)) (ltb-true _ 128 c.if-s-at-lt128.true)) z k);
+      states = λ p k. rw (n, take-length s) at (ascii_stays s p _ at (at + 1) (omega arith) (omega (arith, n)) (ascii_more s at at (λ j l u. absurd (omega arith)) c.if-s-at-lt128.true) z k);
       colons = λ o k. last_byte s o at passed.result.end k n;
     })
 

@@ -1,5 +1,5 @@
 -- The low six bits of x are the code of the state after the first i bytes, and no pair is open there.
-use Rattle.std.proofs.Common.{ℕ, ◌+◌, ◌-◌, ◌%◌, take, ap, ◌∙◌, rules, eq-eqb}
+use Rattle.std.proofs.Common.{ℕ, ◌+◌, ◌%◌, take, ap, ◌∙◌, rules, eq-eqb}
 use Rattle.text.specs.Private.{code}
 use Rattle.text.specs.Walk.{wanted_after}
 use Rattle.text.proofs.Codes.{code_low, walked, ended}

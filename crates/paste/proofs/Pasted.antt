@@ -83,9 +83,9 @@ stored out at k (x ∷ xs) = stored (set out (at + k) x) at (suc k) xs
 module _ (out : List ℕ) (at : ℕ) where
   stored_after : {o : List ℕ} (a b : List ℕ) (k : ℕ) → k ≡ length a → at + k + length b ≤ length out → o ≡ pasted out at a → stored o at k b ≡ pasted out at (a ++ b)
   stored_after a [] k e h p = rw append-nil p
-  stored_after a (x ∷ b) k e h p =
+  stored_after {o = o} a (x ∷ b) k e h p =
       rw (← append_snoc a x b)
-      (stored_after (a ++ x ∷ []) b (suc k) (simp length-append (omega arith)) (omega arith) (rw e (set_after out at a x (omega arith) p)))
+      (stored_after {o = set o (at + k) x} (a ++ x ∷ []) b (suc k) (simp length-append (omega arith)) (omega arith) (rw e (set_after out at a x (omega arith) p)))
 
   -- A first byte stored, then others after it
   pub stored_pasted : (x : ℕ) (b : List ℕ) → at + suc (length b) ≤ length out → stored (set out at x) at 1 b ≡ pasted out at (x ∷ b)

@@ -18,8 +18,13 @@ OWN_USE = re.compile(r"^\s*(?:ghost )?use Rattle\.(?!std\b)")
 ANY_USE = re.compile(r"^\s*(?:ghost )?use ")
 KEYWORDS = {"use", "let", "in", "module", "where", "infix", "infixl", "infixr", "record", "open", "elim", "as", "unfolding"}
 CRATE = ("bytes", "raw_bytes")
-# Constructors that would get the names of definitions.
+# Names that would fall together with those of other definitions.
 APART = {
+    "Refusal-alone": "RefusalAloneExact",
+    "Exact-length": "LengthExact",
+    "Exact-writing": "WritingExact",
+    "Exact-framing": "FramingExact",
+    "Path-text": "PathIsText",
     "file-header-end": "file_header_end_tested",
     "headers-end": "headers_end_tested",
     "names-end": "names_end_tested",

@@ -16,7 +16,7 @@ use Rattle.table.specs.Answers.{counted, uncounted}
 use Rattle.entry_writer.specs.Rows.{in_rows, good_rows}
 use Rattle.entry_writer.specs.Writing.{wholly, spelled, measured_as, within, measured, write, length_in, written}
 use Rattle.entry_writer.specs.Refusals.{Form, alone, Spells, GoodTexts, Writable, WriteRefusal, not_spelled, bad_text, too_long, no_space, ExactLength, ExactWriting}
-use Rattle.entry_writer.specs.Theorems.{WriteExact, WriteRefused, ExactLength, ExactWriting}
+use Rattle.entry_writer.specs.Theorems.{WriteExact, WriteRefused, LengthExact, WritingExact}
 use Rattle.entry_writer.proofs.Spelled.{Takes, spelled_complete, spelled_sound, spelled_refused, goods, all_good, not_all_good, takes_alone, spells_proper}
 
 -- The answer is that of the writing
@@ -176,10 +176,10 @@ pub write_refused : WriteRefused
 unfolding write measured spelled
 write_refused L rows text size n p = refuses_exact (alone L) rows text _ (takes_alone L rows text) size n p
 
-pub exact_length : ExactLength
+pub exact_length : LengthExact
 unfolding measured spelled
 exact_length L rows text = length_exact (alone L) rows text _ (takes_alone L rows text) (proper_alone L rows text)
 
-pub exact_writing : ExactWriting
+pub exact_writing : WritingExact
 unfolding write measured spelled
 exact_writing L rows text dest = writing_exact (alone L) rows text _ (takes_alone L rows text) (proper_alone L rows text) dest

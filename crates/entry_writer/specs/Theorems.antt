@@ -33,12 +33,12 @@ WriteRefused =
     (L : Layout) (rows text : List ℕ) (size n p : ℕ) → (write L rows text size ≡ refuse n p) ↔ (WriteRefusal (alone L) rows text size n × (p ≡ 0))
 
 -- Measuring meets its contract in terms of what the rows spell: `exact_length` in Exact.antt
-abbrev pub ExactLength : Type 0
-ExactLength = (L : Layout) (rows text : List ℕ) → ExactLength (alone L) rows text (length_in (measured L rows text))
+abbrev pub LengthExact : Type 0
+LengthExact = (L : Layout) (rows text : List ℕ) → ExactLength (alone L) rows text (length_in (measured L rows text))
 
 -- So does writing: `exact_writing` in Exact.antt
-abbrev pub ExactWriting : Type 0
-ExactWriting =
+abbrev pub WritingExact : Type 0
+WritingExact =
     (L : Layout) (rows text dest : List ℕ)
     → ExactWriting (alone L) rows text dest (length_in (write L rows text (length dest))) (written (write L rows text (length dest)) dest)
 

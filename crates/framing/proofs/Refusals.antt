@@ -20,7 +20,7 @@ use Rattle.framing.specs.Framing.{all_zero, boundary, boundaries, framing_from, 
 use Rattle.framing.specs.Entries.{framed}
 use Rattle.framing.specs.Refusals.{Boundary, BadBoundary, few_remain, length_zero, length_long, FramingRefusal, too_long, bad_boundary, WholeFraming}
 use Rattle.framing.specs.Answers.{end_of, framing_end, entry_payloads, ExactFraming}
-use Rattle.framing.specs.Theorems.{ExactFraming}
+use Rattle.framing.specs.Theorems.{FramingExact}
 use Rattle.framing.proofs.Framing.{Span, span_none, span_more, boundaries_sound, framing_start, framing_past, framing_complete, framing_sound, non_zero, not_all_zero, from_few, from_zero, from_long, four_not_zero}
 
 pub fails_cond : {S A : Type 0} {Q : ℕ → ℕ → Type 0} (b : Bool) (x y : Outcome S A) → Fails Q x → (b ≡ false → Fails Q y) → Fails Q (cond b x y)
@@ -125,7 +125,7 @@ unfolding entry_payloads framing_end
 framing_refused s u (too_long h) = rw (lt-leb (length s) limit h)
 framing_refused s u (bad_boundary {n = m} {p = q} h b f) = rw (le-leb (length s) limit h, framing_refuses s u m q b f)
 
-pub exact_framing : ExactFraming
+pub exact_framing : FramingExact
 exact_framing s u = record {
   whole = λ end. ((λ e. all_ok (whole_framing s u) e), λ h. framing_found s end h.0 h.1);
   refuses = λ n p. (fails_refuse (framing_fails s u), framing_refused s u);

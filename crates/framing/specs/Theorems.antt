@@ -4,5 +4,5 @@ use Rattle.layout.specs.Theorems.{Bytes}
 use Rattle.framing.specs.Answers.{entry_payloads, ExactFraming}
 
 -- The framing alone meets its contract: `exact_framing` in Refusals.antt
-abbrev pub ExactFraming : Type 0
-ExactFraming = (s : List ℕ) → Bytes s → ExactFraming s (entry_payloads s)
+abbrev pub FramingExact : Type 0
+FramingExact = (s : List ℕ) → Bytes s → ExactFraming s (entry_payloads s)

@@ -14,7 +14,7 @@ use Rattle.layout.specs.Reading.{Outcome, ok, refuse, read}
 use Rattle.layout.specs.Answers.{limit, Answer, accepted, refused, Accepts, Result, Given, whole_rows, acceptance, refusal, Exact}
 use Rattle.layout.specs.Alone.{given, Derives, RefusalAlone, too_long, bad_payload}
 use Rattle.layout.specs.ReadAlone.{through_table, read_alone, reading_alone}
-use Rattle.layout.specs.Theorems.{Bytes, AloneExact, RefusalAlone, AloneOnly, Told, AloneTold, AloneUnique}
+use Rattle.layout.specs.Theorems.{Bytes, AloneExact, RefusalAloneExact, AloneOnly, Told, AloneTold, AloneUnique}
 use Rattle.layout.proofs.Walk.{All, all_ok, all_bind, all_need, all_when, Fails, fails_need, fails_map, fails_refuse}
 use Rattle.layout.proofs.InBytes.{read_complete, read_sound, value_unique}
 use Rattle.layout.proofs.BadReads.{payload_bad, payload_refuses}
@@ -153,7 +153,7 @@ module _ (L : Layout) (entities : ℕ) (s : List ℕ) where
   refuses_alone (too_long h) = rw (lt-leb (length s) limit h)
   refuses_alone (bad_payload h b) = rw (le-leb (length s) limit h) (payload_refuses s (given entities) (length s) refl b)
 
-pub refusal_alone : RefusalAlone
+pub refusal_alone : RefusalAloneExact
 refusal_alone L entities s u n p = (fails_refuse (bad_alone L entities s u), refuses_alone L entities s)
 
 finds : (L : Layout) (entities : ℕ) (s : List ℕ) → Bytes s → Finds (Derives L s) (λ v. given entities (leaves L v)) (RefusalAlone L s) (read_alone L entities s)

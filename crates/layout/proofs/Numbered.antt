@@ -145,10 +145,10 @@ of_reads : Reads (λ n. Memᴰ n (5 ∷ 6 ∷ 7 ∷ 9 ∷ []))
 of_reads = record { five = search among; six = search among; seven = search among }
 
 pub mapping_bad_read : MappingBadRead
-mapping_bad_read s at n p b = read_numbered _ of_reads (by_mapping _ (search among)) b
+mapping_bad_read s at n p b = read_numbered _ of_reads (by_mapping (λ n. Memᴰ n (5 ∷ 6 ∷ 7 ∷ 9 ∷ [])) (search among)) b
 
 pub metadata_bad_read : MetadataBadRead
-metadata_bad_read s at n p b = read_numbered _ of_reads (by_metadata _ (search among)) b
+metadata_bad_read s at n p b = read_numbered _ of_reads (by_metadata (λ n. Memᴰ n (5 ∷ 6 ∷ 7 ∷ 9 ∷ [])) (search among)) b
 
 pub payload_numbered : PayloadNumbered
 payload_numbered s u table n p e = of_answer OfPayload of_entity Entity (judged OfPayload of_entity.reads of_fault Entity) 1 s u table n p e

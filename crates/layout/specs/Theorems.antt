@@ -56,8 +56,8 @@ AloneExact =
     (L : Layout) (entities : ℕ) (s : List ℕ) → Bytes s → (table : List ℕ) → ExactAlone L entities s table (reading_alone L entities s table)
 
 -- A refusal of one value alone is returned exactly under its condition: `refusal_alone` in Alone.antt
-abbrev pub RefusalAlone : Type 0
-RefusalAlone =
+abbrev pub RefusalAloneExact : Type 0
+RefusalAloneExact =
     (L : Layout) (entities : ℕ) (s : List ℕ) → Bytes s → (n p : ℕ) → (read_alone L entities s ≡ refuse n p) ↔ RefusalAlone L s n p
 
 -- And no other result meets it: `alone_only` in Alone.antt

@@ -20,7 +20,7 @@ use Rattle.raw_bytes.proofs.Number.{number_there}
 use Rattle.section.specs.Derivation.{Item, sentinel, entity, payload, ProperItem}
 use Rattle.runs.specs.Runs.{text_from, kind_and_text}
 use Rattle.paths.specs.Paths.{full_path_fields, field_of, text_of, full_path, kind_and_path}
-use Rattle.paths.specs.Theorems.{PathText, PathText}
+use Rattle.paths.specs.Theorems.{PathText, PathIsText}
 use Rattle.paths.specs.Private.{Field, T, N, after_field, after_fields, fields_before, place_by, path_place, mark_of, path_mark, marked_unless0, path_at, PayloadIn}
 
 -- A length that stands at a place
@@ -170,7 +170,7 @@ text_after (x ∷ xs) t ls = text_after xs t ls
 path_cut : (kind : ℕ) (ls : List Leaf) (c : Cut kind ls) → full_path (plain Kind kind ∷ ls) ≡ c.text ∷ []
 path_cut kind ls c = rw (c.field, c.stands) (ap (λ (t : List ℕ). t ∷ []) (text_after c.before c.text c.after))
 
-pub path_text : PathText
+pub path_text : PathIsText
 unfolding Entity
 path_text v p n = go (cut_kind v.0 v.2 p.2 p.3)
   where

@@ -20,8 +20,8 @@ pub record PathText (ls : List Leaf) : Type 0 where
   pub path : full_path ls ≡ text ∷ []
 
 -- This holds of every entity but a schema: `path_text` in Fields.antt
-abbrev pub PathText : Type 0
-PathText = (v : Value Entity) → Proper Entity v → (value_in (leaves Entity v) 0 ≡ 1 → ⊥) → PathText (leaves Entity v)
+abbrev pub PathIsText : Type 0
+PathIsText = (v : Value Entity) → Proper Entity v → (value_in (leaves Entity v) 0 ≡ 1 → ⊥) → PathText (leaves Entity v)
 
 -- A schema has no full_path, and so repeats none: `schema_alone` in Exact.antt
 abbrev pub SchemaAlone : Type 0

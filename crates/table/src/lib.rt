@@ -9,7 +9,7 @@ ghost use Rattle.table.specs.Answers.{result_of};
 use layout::ROW_WIDTH;
 
 // A row: the sort of its leaf, an offset and a value.
-#[derive(Drop)]
+#[derive(Clone, Copy)]
 pub struct Row {
     pub sort: u32,
     pub offset: u32,
@@ -17,14 +17,14 @@ pub struct Row {
 }
 
 // A refusal: its number and place.
-#[derive(Drop)]
+#[derive(Clone, Copy)]
 pub struct Refusal {
     pub number: u32,
     pub place: usize,
 }
 
 // The answer of a reading: the numbers of entities and rows, or a refusal.
-#[derive(Drop)]
+#[derive(Clone, Copy)]
 pub enum Answer {
     Accepted { entities: usize, rows: usize },
     Refused(Refusal),

@@ -8,7 +8,7 @@ ghost use Rattle.place.specs.Place.{between, found_part, part_of, number_in, pla
 use table::Refusal;
 
 // Where a part of the bytes is: from a start on; or nowhere, with a refusal.
-#[derive(Drop)]
+#[derive(Clone, Copy)]
 pub enum PartPlace {
     Part { start: usize, len: usize },
     Refused(Refusal),

@@ -1,5 +1,4 @@
 -- The lengths differ; or byte after byte, up to the end or to two that differ.
-use Prim.Native.Nat.{◌-◌}
 use native.Mathlib.Omega.{arith}
 use mathlib.Core.Path.{refl, sym, ◌∙◌}
 use Rattle.raw_bytes.proofs.Compared.{same_not, same_on, same_differ, same_end}

@@ -17,7 +17,7 @@ use table::Answer;
 // The state of a reading: `at`, the next byte, or the place of the refusal; `rows`, the rows stored so far, or one more than
 // the table has once a row did not fit; `refusal`, 0 or the number of the refusal; `value`, the value of the last leaf read. A
 // refused cursor reads nothing more.
-#[derive(Drop)]
+#[derive(Clone, Copy)]
 pub struct Cursor {
     pub at: usize,
     pub rows: usize,

@@ -14,14 +14,14 @@ use table::Refusal;
 const TOO_LONG: u32 = 16;
 
 // A length in bytes, or a refusal.
-#[derive(Drop)]
+#[derive(Clone, Copy)]
 pub enum Length {
     Counted { count: usize },
     Refused(Refusal),
 }
 
 // An optional length.
-#[derive(Drop)]
+#[derive(Clone, Copy)]
 pub enum OptionLen {
     None,
     Some(usize),

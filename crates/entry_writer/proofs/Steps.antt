@@ -1,13 +1,13 @@
 -- The result of taking a row, from the tests on it.
 use Prim.Native.Nat.{ℕ, ◌+◌, ◌-◌, ◌≤◌, ◌<◌}
 use native.Mathlib.Omega.{arith}
-use mathlib.Core.Bool.{Bool, true, false, not, cond}
+use mathlib.Core.Bool.{Bool, true, false, cond}
 use mathlib.Core.List.{List}
 use mathlib.Core.Path.{◌≡◌, refl, sym, ap, ◌∙◌}
 use lib.Dec.{leb}
 use lib.ListN.{length, take, drop, length-append, length-drop}
 use lib.Seq.{length-take-le}
-use borrow.Author.Tests.{not-true, not-false, lt-ltb, le-ltb, le-leb, lt-leb, leb-true, leb-false}
+use borrow.Author.Tests.{lt-ltb, le-ltb, le-leb, lt-leb, leb-true, leb-false}
 use Rattle.layout.specs.Layout.{Sort, Kind, Tag, Flag, Number, Count, string}
 use Rattle.layout.specs.Written.{text_sort, four, plain_bytes, leaf_bytes, offset_at, value_at}
 use Rattle.layout.specs.Reading.{Outcome, ok, refuse, utf8}
@@ -32,8 +32,8 @@ left_of start n l h = go (leb n (l - start)) refl
     go false e = let k = leb-false n (l - start) e in sym (lt-leb (start + n) l (omega arith))
 
 -- A text within the lent bytes ends within them
-pub stays_within : (s : Bool) (end l : ℕ) → s ≡ leb end l → not s ≡ false → end ≤ l
-stays_within s end l e h = leb-true end l (sym e ∙ not-false s h)
+pub stays_within : (s : Bool) (end l : ℕ) → s ≡ leb end l → s ≡ true → end ≤ l
+stays_within s end l e h = leb-true end l (sym e ∙ h)
 
 -- A length that stops just above the limit
 pub stopped_most : (n : ℕ) → stopped n ≤ limit + 1
@@ -60,8 +60,8 @@ take_sort Count (ok n next) w = refl
 take_sort srt (refuse n p) w = refl
 
 -- A row of a given sort is one of the whole rows
-pub row_inside : (rows : List ℕ) (i sort : ℕ) (t : Bool) → t ≡ is_row rows i sort → not t ≡ false → i < whole_rows rows
-row_inside rows i sort t e h = (is_row_lem rows i sort (sym e ∙ not-false t h)).0
+pub row_inside : (rows : List ℕ) (i sort : ℕ) (t : Bool) → t ≡ is_row rows i sort → t ≡ true → i < whole_rows rows
+row_inside rows i sort t e h = (is_row_lem rows i sort (sym e ∙ h)).0
 
 pub refused_stays : (w out : EntryWriter) → (w.refusal ≡ 0 → ⊥) → w ≡ unless_refused out w
 refused_stays w out h = sym (unless_refused_lem out w h)
@@ -71,27 +71,27 @@ step_of w out r z e = e ∙ sym (goes_on out w z)
 
 module _ (rows : List ℕ) (w : EntryWriter) (z : w.refusal ≡ 0) (r : EntryWriter) (t : Bool) where
   -- No row of the sort
-  pub number_none : (size sort bound : ℕ) → t ≡ is_row rows w.row sort → not t ≡ true → r ≡ stopped_writer w
+  pub number_none : (size sort bound : ℕ) → t ≡ is_row rows w.row sort → t ≡ false → r ≡ stopped_writer w
       → r ≡ unless_refused (take_number size (number_from rows sort bound w.row) w) w
-  number_none size sort bound e h q = step_of w _ _ z (rw (← e, not-true t h) q)
+  number_none size sort bound e h q = step_of w _ _ z (rw (← e, h) q)
 
-  pub text_none : (text : List ℕ) → t ≡ is_row rows w.row text_sort → not t ≡ true → r ≡ stopped_writer w
+  pub text_none : (text : List ℕ) → t ≡ is_row rows w.row text_sort → t ≡ false → r ≡ stopped_writer w
       → r ≡ unless_refused (arrive_text (stays_at rows text w.row) (text_in rows text w.row) w) w
-  text_none text e h q = step_of w _ _ z (rw (← e, not-true t h) q)
+  text_none text e h q = step_of w _ _ z (rw (← e, h) q)
 
 -- The number in a row of the sort
-module _ (rows : List ℕ) (w : EntryWriter) (z : w.refusal ≡ 0) (size sort bound : ℕ) (t : Bool) (e : t ≡ is_row rows w.row sort) (h : not t ≡ false) (row : Row) (g : row ≡ row_of rows w.row) where
+module _ (rows : List ℕ) (w : EntryWriter) (z : w.refusal ≡ 0) (size sort bound : ℕ) (t : Bool) (e : t ≡ is_row rows w.row sort) (h : t ≡ true) (row : Row) (g : row ≡ row_of rows w.row) where
   number_is : row.value ≡ value_at rows w.row
   number_is = value_there rows w.row (row_inside rows w.row sort t e h) g
 
   pub number_large : bound ≤ row.value → (r : EntryWriter) → r ≡ stopped_writer w → r ≡ unless_refused (take_number size (number_from rows sort bound w.row) w) w
-  number_large k r s = step_of w _ _ z (rw (← e, not-false t h, ← number_is, le-ltb row.value bound k) s)
+  number_large k r s = step_of w _ _ z (rw (← e, h, ← number_is, le-ltb row.value bound k) s)
 
   pub number_taken : row.value < bound → (r : EntryWriter) → r ≡ past row.value size w → r ≡ unless_refused (take_number size (number_from rows sort bound w.row) w) w
-  number_taken k r s = step_of w _ _ z (rw (← e, not-false t h, ← number_is, lt-ltb row.value bound k) s)
+  number_taken k r s = step_of w _ _ z (rw (← e, h, ← number_is, lt-ltb row.value bound k) s)
 
 -- The text of a row
-module _ (rows text : List ℕ) (w : EntryWriter) (z : w.refusal ≡ 0) (t : Bool) (e : t ≡ is_row rows w.row text_sort) (h : not t ≡ false) (row : Row) (g : row ≡ row_of rows w.row) (s : Bool) (b : s ≡ leb (row.offset + row.value) (length text)) where
+module _ (rows text : List ℕ) (w : EntryWriter) (z : w.refusal ≡ 0) (t : Bool) (e : t ≡ is_row rows w.row text_sort) (h : t ≡ true) (row : Row) (g : row ≡ row_of rows w.row) (s : Bool) (b : s ≡ leb (row.offset + row.value) (length text)) where
   abbrev start : ℕ
   start = row.offset
 
@@ -108,8 +108,8 @@ module _ (rows text : List ℕ) (w : EntryWriter) (z : w.refusal ≡ 0) (t : Boo
   size_is = value_there rows w.row inside g
 
   -- It is not within the lent bytes
-  pub text_outside : not s ≡ true → (r : EntryWriter) → r ≡ spoiled w → r ≡ unless_refused (arrive_text (stays_at rows text w.row) (text_in rows text w.row) w) w
-  text_outside k r y = step_of w _ _ z (rw (← e, not-false t h, ← start_is, ← size_is, ← b, not-true s k) y)
+  pub text_outside : s ≡ false → (r : EntryWriter) → r ≡ spoiled w → r ≡ unless_refused (arrive_text (stays_at rows text w.row) (text_in rows text w.row) w) w
+  text_outside k r y = step_of w _ _ z (rw (← e, h, ← start_is, ← size_is, ← b, k) y)
 
   abbrev lent : List ℕ
   lent = take n (drop start text)
@@ -118,21 +118,21 @@ module _ (rows text : List ℕ) (w : EntryWriter) (z : w.refusal ≡ 0) (t : Boo
   lent_length h = length-take-le n (drop start text) (omega (arith, length-drop start text))
 
   -- It is
-  module _ (k : not s ≡ false) (u : Bool) (f : u ≡ automaton.utf8 (take (start + n - start) (drop start text))) (r : EntryWriter) where
+  module _ (k : s ≡ true) (u : Bool) (f : u ≡ automaton.utf8 (take (start + n - start) (drop start text))) (r : EntryWriter) where
     text_within : r ≡ past_text u lent w → r ≡ unless_refused (arrive_text (stays_at rows text w.row) (text_in rows text w.row) w) w
     unfolding utf8
     text_within y =
         let x : start + n - start ≡ n = omega arith in
         let v = rw x at f in
-        step_of w _ _ z (rw (← e, not-false t h, ← start_is, ← size_is, ← b, not-false s k, ← v) y)
+        step_of w _ _ z (rw (← e, h, ← start_is, ← size_is, ← b, k, ← v) y)
 
     -- And is bad
-    pub text_bad : not u ≡ true → r ≡ spoiled w → r ≡ unless_refused (arrive_text (stays_at rows text w.row) (text_in rows text w.row) w) w
-    text_bad j y = text_within (rw (not-true u j) y)
+    pub text_bad : u ≡ false → r ≡ spoiled w → r ≡ unless_refused (arrive_text (stays_at rows text w.row) (text_in rows text w.row) w) w
+    text_bad j y = text_within (rw j y)
 
     -- And is good
-    pub text_good : not u ≡ false → r ≡ past n (4 + n) w → r ≡ unless_refused (arrive_text (stays_at rows text w.row) (text_in rows text w.row) w) w
+    pub text_good : u ≡ true → r ≡ past n (4 + n) w → r ≡ unless_refused (arrive_text (stays_at rows text w.row) (text_in rows text w.row) w) w
     text_good j y =
         let m = lent_length (stays_within s (start + n) (length text) b k) in
         let l : length (leaf_bytes (string lent)) ≡ 4 + n = length-append (four (length lent)) lent ∙ omega arith in
-        text_within (rw (not-false u j) (y ∙ sym (ap (λ (i : ℕ). past (length lent) i w) l ∙ ap (λ (i : ℕ). past i (4 + n) w) m)))
+        text_within (rw j (y ∙ sym (ap (λ (i : ℕ). past (length lent) i w) l ∙ ap (λ (i : ℕ). past i (4 + n) w) m)))

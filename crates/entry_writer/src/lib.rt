@@ -20,7 +20,7 @@ use table::Refusal;
 
 // The state of a writing: `row`, the next row; `pos`, the length so far, which stops just above the limit; `value`, the value
 // of the row before; `refusal`, 0 or 14; `bad`, 1 if a text row was bad, else 0. A refused writer takes no more rows.
-#[derive(Drop)]
+#[derive(Clone, Copy)]
 pub struct EntryWriter {
     pub row: usize,
     pub pos: usize,

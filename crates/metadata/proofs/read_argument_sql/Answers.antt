@@ -1,0 +1,23 @@
+-- Each known tag, and the rest.
+use native.Mathlib.Omega.{arith}
+use mathlib.Core.Path.{refl}
+use Rattle.layout.specs.Entities.{ArgumentSql, argument_results}
+use Rattle.layout.proofs.Forms.{tags_in, tags_wrong}
+use Rattle.leaf.proofs.Handing.{copy_in}
+use Rattle.metadata.proofs.read_argument_sql.Goals as goal
+
+pub returns-in-1 : goal.returns-in-1
+unfolding ArgumentSql
+returns-in-1 c =
+    let read-u8 = c.read_u8-c in
+    tags_in argument_results 1 _ _ _ _ read-u8.ensures c.in-1.is refl (copy_in _ _ _ _ _ _ c.copy.ensures c.read_sql_mapping.ensures)
+
+pub returns-in-2 : goal.returns-in-2
+unfolding ArgumentSql
+returns-in-2 c =
+    let read-u8 = c.read_u8-c in
+    tags_in argument_results 2 _ _ _ _ read-u8.ensures c.in-2.is refl c.read_argument_error.ensures
+
+pub returns-in_default : goal.returns-in_default
+unfolding ArgumentSql
+returns-in_default c = tags_wrong argument_results _ _ _ _ c.read_u8-c.ensures (omega arith) (rw c.refused.ensures)

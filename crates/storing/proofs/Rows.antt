@@ -1,13 +1,13 @@
 -- Rows that are stored one after the other, those that fit; and where an entity ends.
 use Prim.Native.Nat.{ℕ, zero, suc, ◌+◌, ◌-◌, ◌%◌, ◌≤◌, ◌<◌}
 use native.Mathlib.Omega.{arith}
-use mathlib.Core.Bool.{Bool, not, true, false, cond}
+use mathlib.Core.Bool.{Bool, true, false, cond}
 use mathlib.Core.List.{List, [], ◌∷◌, ◌++◌}
 use mathlib.Core.Path.{◌≡◌, refl, sym, ap, ◌∙◌}
 use lib.Dec.{leb}
 use lib.ListN.{length, take, drop, length-append, length-drop}
 use lib.Seq.{length-take-le}
-use borrow.Author.Tests.{not-true, not-false, le-leb, lt-leb, leb-true}
+use borrow.Author.Tests.{le-leb, lt-leb, leb-true}
 use Rattle.layout.specs.Written.{four, sort_at, offset_at, value_at}
 use Rattle.layout.specs.Answers.{whole_rows}
 use Rattle.paste.specs.Pasted.{pasted}
@@ -43,22 +43,22 @@ text_there text start size e = rw e
 
 module _ (text : List ℕ) (start size at : ℕ) (dest : List ℕ) (k : at ≤ length dest) (s : Bool) (e : s ≡ leb (start + size) (length text)) where
   -- Of one that leaves them nothing is stored
-  pub text_outside : not s ≡ true → spot at dest ≡ stored_bytes (text_bytes text start size) (spot at dest)
+  pub text_outside : s ≡ false → spot at dest ≡ stored_bytes (text_bytes text start size) (spot at dest)
   unfolding text_bytes
   text_outside h =
       let z : at + 0 ≡ at = omega arith in
-      sym (rw (← e, not-true s h) (bytes_fit [] at dest (omega arith) ∙ rw (pasted_none dest at k, z)))
+      sym (rw (← e, h) (bytes_fit [] at dest (omega arith) ∙ rw (pasted_none dest at k, z)))
 
   -- The others fit, or do not
-  module _ (h : not s ≡ false) where
+  module _ (h : s ≡ true) where
     abbrev lent : List ℕ
     lent = take size (drop start text)
 
     inside : start + size ≤ length text
-    inside = leb-true _ _ (sym e ∙ not-false s h)
+    inside = leb-true _ _ (sym e ∙ h)
 
     whole : text_bytes text start size ≡ four size ++ lent
-    whole = text_there text start size (sym e ∙ not-false s h)
+    whole = text_there text start size (sym e ∙ h)
 
     lent_length : length lent ≡ size
     lent_length = length-take-le size (drop start text) (omega (arith, inside, length-drop start text))

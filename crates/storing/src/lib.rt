@@ -43,7 +43,7 @@ pub fn store_entries(rows: &[u32], text: &[u8], dest: &mut [u8])
 }
 
 // Where storing goes on: the next row, and the place in the destination.
-#[derive(Drop)]
+#[derive(Clone, Copy)]
 struct End {
     row: usize,
     at: usize,

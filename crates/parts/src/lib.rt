@@ -14,7 +14,7 @@ use table::Row;
 use text::{State, TextCheck};
 
 // Where the SQL name of a declared name starts; or that the name is not UTF-8.
-#[derive(Drop)]
+#[derive(Clone, Copy)]
 pub enum NameStart {
     At { start: usize },
     NotUtf8,
@@ -22,7 +22,7 @@ pub enum NameStart {
 
 // Where a walk over a declared name stands: the state of the text check, whether a colon is open, where the SQL name starts so
 // far, and how many bytes the walk has seen. Both numbers count from the start of the whole name.
-#[derive(Drop)]
+#[derive(Clone, Copy)]
 pub struct NameWalk {
     pub state: State,
     pub opened: bool,

@@ -1,0 +1,11 @@
+-- The part where the text is.
+use Rattle.place.specs.Place.{part_of, number_in, place_in}
+use mathlib.Core.Path.{ap, ◌∙◌}
+use Rattle.parts.proofs.row_text.Goals as goal
+
+pub returns : goal.returns
+returns c =
+    let args = c.args in
+    let e = c.place_row_text-found.ensures in
+    let p = c.part_at.ensures in
+    record { result_value = p.result_value ∙ ap (part_of args.section.now) e; number_after = p.number_after ∙ ap number_in e; place_after = p.place_after ∙ ap place_in e }

@@ -10,9 +10,7 @@ use Rattle.layout.specs.Answers.{limit}
 use Rattle.raw_bytes.specs.Bytes.{same}
 use Rattle.raw_bytes.proofs.Compared.{same_sound, same_refl}
 use Rattle.runs.specs.Runs.{kind_and_text, kinds_and_texts, equals, pairs, equal_pairs}
-use Rattle.runs.specs.declared.Runs.{Runs}
-use Rattle.runs.specs.declared.Runs.TheVariants.{Counted}
-use Rattle.runs.specs.Private.{swapped, Kept, PairsOf}
+use Rattle.runs.specs.Private.{swapped, Kept}
 
 -- 1 if two lists are the same, else 0
 unfoldable one : List ℕ → List ℕ → ℕ
@@ -103,6 +101,3 @@ module _ (s l : List ℕ) where
   pub pairs_many : limit < length l → 0 ≡ equal_pairs s l
   unfolding equal_pairs
   pairs_many h = rw (lt-leb (length l) limit h)
-
-  pub pairs_counted : (m : List ℕ) → Kept s l m → length l ≤ limit → (r : Runs) → PairsOf (kinds_and_texts s m) r → (n : ℕ) → r ≡ Counted n → n ≡ equal_pairs s l
-  pairs_counted m k h r p n e = (rw e at p) ∙ k.pairs_is ∙ pairs_few h

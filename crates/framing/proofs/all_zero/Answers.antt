@@ -1,5 +1,5 @@
 -- Block after block, then the rest.
-use Prim.Native.Nat.{◌+◌, ◌-◌}
+use Prim.Native.Nat.{◌+◌}
 use Rattle.framing.proofs.Padding.{zero_end, zeros_not, zeros_past, zeros_last}
 use Rattle.framing.specs.Framing.{all_zero}
 use lib.ListN.{length, drop}

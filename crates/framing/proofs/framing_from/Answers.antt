@@ -2,7 +2,6 @@
 use Rattle.framing.proofs.Entries.{next_end, none_here}
 use mathlib.Core.Path.{refl, sym, ◌∙◌}
 use native.Mathlib.Omega.{arith}
-use Prim.Native.Nat.{◌-◌}
 use Rattle.framing.proofs.framing_from.Goals as goal
 
 pub entry_end-end-requires : goal.entry_end-end-requires

@@ -1,5 +1,4 @@
 -- From sentinel to sentinel.
-use Prim.Native.Nat.{◌-◌}
 use mathlib.Core.Path.{refl, sym, ap, ◌∙◌}
 use native.Mathlib.Omega.{arith}
 use Rattle.framing.specs.Places.{past_sentinels}

@@ -6,7 +6,7 @@ use lib.Dec.{eqb}
 use mathlib.Core.Path.{◌≡◌, refl, ap, ◌∙◌}
 use mathlib.Core.Bool.{◌&&◌}
 use native.Mathlib.Omega.{arith}
-use Prim.Native.Nat.{ℕ, ◌-◌}
+use Prim.Native.Nat.{ℕ}
 use Rattle.framing.proofs.zeros.Goals as goal
 
 pub loop-i-init : goal.loop-i-init

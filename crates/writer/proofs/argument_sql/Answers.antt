@@ -1,0 +1,18 @@
+-- Each known tag, and the rest.
+use native.Mathlib.Omega.{arith}
+use mathlib.Core.Path.{refl}
+use Rattle.layout.specs.Entities.{ArgumentSql, argument_results}
+use Rattle.layout.proofs.Forms.{tags_in, tags_wrong}
+use Rattle.writer.proofs.argument_sql.Goals as goal
+
+pub returns-in-1 : goal.returns-in-1
+unfolding ArgumentSql
+returns-in-1 c = tags_in argument_results 1 _ _ _ _ c.u8-w.ensures c.in-1.is refl c.sql_mapping.ensures
+
+pub returns-in-2 : goal.returns-in-2
+unfolding ArgumentSql
+returns-in-2 c = tags_in argument_results 2 _ _ _ _ c.u8-w.ensures c.in-2.is refl c.argument_error.ensures
+
+pub returns-in_default : goal.returns-in_default
+unfolding ArgumentSql
+returns-in_default c = tags_wrong argument_results _ _ _ _ c.u8-w.ensures (omega arith) c.refused.ensures

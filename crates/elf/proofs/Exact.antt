@@ -43,7 +43,7 @@ elf_complete file h =
 
 no_zero_sound : (s : List ℕ) → no_zero s ≡ true → (i : ℕ) → i < length s → get_or s i 0 ≡ 0 → ⊥
 no_zero_sound [] e i h z = omega arith
-no_zero_sound (b ∷ s) e zero h z = eqb-false b 0 (tests.not_true _ ((and-eq-true_iff (not (eqb b 0)) (no_zero s)).0 e).0) z
+no_zero_sound (b ∷ s) e zero h z = eqb-false b 0 (tests.not-true _ ((and-eq-true_iff (not (eqb b 0)) (no_zero s)).0 e).0) z
 no_zero_sound (b ∷ s) e (suc i) h z = no_zero_sound s ((and-eq-true_iff (not (eqb b 0)) (no_zero s)).0 e).1 i (omega arith) z
 
 no_zero_complete : (s : List ℕ) → ((i : ℕ) → i < length s → get_or s i 0 ≡ 0 → ⊥) → no_zero s ≡ true

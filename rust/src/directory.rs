@@ -163,7 +163,7 @@ impl Record {
 /// assert_eq!(record.entry(), 24..section.len());
 /// let function = directory.entity(index).unwrap();
 /// assert_eq!(function.kind(), EntityKind::Function);
-/// assert_eq!(function.name(), "one");
+/// assert_eq!(function.texts().next(), Some("one"));
 /// # Ok::<(), pgrxsc::Refusal>(())
 /// ```
 ///

@@ -32,7 +32,7 @@
 //!     let mut table = Table::new();
 //!     let reading = table.read_section(section)?;
 //!     let schemas = reading.entities().filter(|entity| entity.kind() == EntityKind::Schema);
-//!     Ok(schemas.map(|schema| schema.name()).collect())
+//!     Ok(schemas.filter_map(|schema| schema.texts().nth(1)).collect())
 //! }
 //!
 //! let section = b"\x1c\0\0\0\x01\x04\0\0\0path\x04\0\0\0name\x03\0\0\0a.b\x07\0\0\0";

@@ -12,7 +12,7 @@ ghost use Rattle.used.specs.Private.{named};
 use leaf::Cursor;
 
 // What comes before a used type: nothing; for an argument its pattern; for an aggregate's type an optional name.
-#[derive(Drop)]
+#[derive(Clone, Copy)]
 enum Name {
     None,
     Str,

@@ -25,7 +25,7 @@ const HAS_SCALE: usize = 3;
 const AS_HEAD: usize = 5;
 
 // Where the SQL text of a mapping is: in the section, from a start on; at the start of the buffer; or nowhere, with a refusal.
-#[derive(Drop)]
+#[derive(Clone, Copy)]
 pub enum SqlPlace {
     Section { start: usize, len: usize },
     Buffer { len: usize },

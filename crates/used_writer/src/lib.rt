@@ -11,7 +11,7 @@ ghost use Rattle.used_writer.specs.Private.{named};
 use entry_writer::EntryWriter;
 
 // What comes before a used type: nothing; for an argument its pattern; for an aggregate's type an optional name.
-#[derive(Drop)]
+#[derive(Clone, Copy)]
 enum Name {
     None,
     Str,

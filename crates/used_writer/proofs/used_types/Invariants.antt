@@ -1,0 +1,15 @@
+-- i items are taken; the others are still to come.
+use Prim.Native.Nat.{◌-◌}
+use mathlib.Core.Path.{◌≡◌}
+use Rattle.layout.specs.Layout.{◌then◌}
+use Rattle.layout.specs.Entities.{UsedType}
+use Rattle.layout.specs.Forms.{times}
+use Rattle.entry_writer.specs.Run.{consume}
+use Rattle.used_writer.specs.Private.{named}
+use Rattle.used_writer.proofs.used_types.Given as goal
+
+abbrev pub invariant-loop-i : goal.invariant-loop-i
+invariant-loop-i l = consume (times l.count (named l.name then UsedType)) l.rows l.text l.initial.w ≡ consume (times (l.count - l.i) (named l.name then UsedType)) l.rows l.text l.w
+
+abbrev pub decreases-loop-i : goal.decreases-loop-i
+decreases-loop-i l = l.count - l.i

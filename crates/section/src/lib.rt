@@ -17,7 +17,7 @@ use leaf::Cursor;
 use table::Answer;
 
 // The reading so far: the cursor, and the number of entities.
-#[derive(Drop)]
+#[derive(Clone, Copy)]
 pub struct Progress {
     pub cursor: Cursor,
     pub entities: usize,

@@ -1,0 +1,14 @@
+-- The optional part follows, or its flag is 0.
+use Rattle.layout.specs.Entities.{OptionParallelOption}
+use Rattle.layout.proofs.Forms.{may_in, may_out}
+use Rattle.entity.proofs.read_option_parallel_option.Goals as goal
+
+pub returns-then-c-ne0 : goal.returns-then-c-ne0
+unfolding OptionParallelOption
+returns-then-c-ne0 c =
+    let read-bool = c.read_bool-c in
+    may_in _ _ _ _ _ read-bool.ensures c.if-c-ne0.true c.read_parallel_option.ensures
+
+pub returns : goal.returns
+unfolding OptionParallelOption
+returns c = may_out _ _ _ _ c.read_bool-c.ensures c.if-c-ne0.false

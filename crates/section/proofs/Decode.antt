@@ -2,36 +2,25 @@
 use Prim.Native.Nat.{ℕ, ◌≤◌, ◌<◌}
 use native.Mathlib.Omega.{arith}
 use mathlib.Core.List.{List}
-use mathlib.Core.Path.{◌≡◌, refl, sym, ap, subst, ◌∙◌}
+use mathlib.Core.Path.{◌≡◌, refl, sym, subst, ◌∙◌}
 use lib.ListN.{length}
 use borrow.Author.Tests.{lt-leb, le-leb}
 use Rattle.layout.specs.Reading.{ok, refuse}
 use Rattle.layout.specs.Answers.{limit, Result, refusal}
 use Rattle.layout.specs.Theorems.{Bytes}
 use Rattle.leaf.specs.Answered.{answered}
-use Rattle.framing.specs.Framing.{Parts, framing_from, framing}
-use Rattle.framing.specs.Answers.{framing_of, end_of, framing_end}
-use Rattle.framing.specs.declared.Framed.{Framed}
-use Rattle.framing.specs.declared.Framed.TheVariants.{Whole, Refused}
+use Rattle.framing.specs.Framing.{Parts, framing}
+use Rattle.framing.specs.Answers.{end_of, framing_end}
 use Rattle.section.specs.Section.{read_section, reading}
 use Rattle.section.specs.Demand3.{Demand3}
 use Rattle.section.specs.Entry.{Stage}
-use Rattle.section.specs.Private.{Reads, Walked}
-use Rattle.table.specs.declared.Refusal.{Refusal}
+use Rattle.section.specs.Private.{Reads}
 use Rattle.section.proofs.Demand3.{reading_meets}
 use Rattle.section.proofs.Entries.{answers}
 
 -- Both clauses, from the first
 pub promised : (s table : List ℕ) (r : Result) → Bytes s → r ≡ reading s table → (r ≡ reading s table) × Demand3 s table r
 promised s table r u e = (e, subst (λ (x : Result). Demand3 s table x) (sym e) (reading_meets s u table))
-
--- The result of the framing, from a boundary up to which it is good
-module _ {s : List ℕ} {at : ℕ} (w : Walked s at) (f : Framed) (e : framing_of f ≡ end_of (framing_from s at)) where
-  pub framing_whole : (end : ℕ) → f ≡ Whole end → framing_end s ≡ ok tt end
-  framing_whole end k = w.rest ∙ sym e ∙ ap framing_of k
-
-  pub framing_refused : (x : Refusal) → f ≡ Refused x → framing_end s ≡ refuse x.number x.place
-  framing_refused x k = w.rest ∙ sym e ∙ ap framing_of k
 
 -- A section whose framing is refused
 pub refused_section : (s : List ℕ) → length s ≤ limit → (n p : ℕ) → framing_end s ≡ refuse n p → read_section s ≡ refuse n p

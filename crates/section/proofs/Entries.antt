@@ -12,7 +12,7 @@ use Rattle.layout.specs.Layout.{Leaf}
 use Rattle.layout.specs.Written.{bytes, row_width}
 use Rattle.layout.specs.Entities.{Entity}
 use Rattle.layout.specs.Reading.{Outcome, ok, refuse, ◌>>=◌, read}
-use Rattle.layout.specs.Answers.{limit, whole_rows, refusal}
+use Rattle.layout.specs.Answers.{limit, whole_rows}
 use Rattle.layout.specs.ReadAlone.{through_table}
 use Rattle.layout.specs.Theorems.{Bytes}
 use Rattle.layout.proofs.Walk.{all_ok}

@@ -10,7 +10,7 @@ use lib.Seq.{ext_get_or, get_or-append-add, get_or-drop}
 use borrow.Author.Tests.{leb-true, leb-false, ltb-true, ltb-false, le-leb, lt-leb, ne_eqb}
 use Rattle.layout.specs.Written.{row_width, rows_from}
 use Rattle.layout.specs.Reading.{Outcome, ok, refuse}
-use Rattle.layout.specs.Answers.{Accepts, whole_rows, acceptance, refusal}
+use Rattle.layout.specs.Answers.{Accepts, whole_rows, acceptance}
 use Rattle.layout.specs.Theorems.{Bytes, Told}
 use Rattle.layout.proofs.Walk.{all_ok}
 use Rattle.layout.proofs.Rows.{rows_length}

@@ -1,5 +1,5 @@
 -- The lent list with the records, and the result of the reading with a directory.
-use Prim.Native.Nat.{ℕ, zero, suc, ◌+◌, ◌-◌, ◌*◌, ◌≤◌, ◌<◌}
+use Prim.Native.Nat.{ℕ, zero, suc, ◌-◌, ◌*◌, ◌≤◌, ◌<◌}
 use native.Mathlib.Nat.{le_of_lt}
 use native.Mathlib.Numerals.{add-one}
 use native.Mathlib.Omega.{arith}
@@ -7,7 +7,7 @@ use mathlib.Core.Bool.{Bool, true, false, cond}
 use mathlib.Core.List.{List, [], ◌∷◌, ◌++◌, append_assoc}
 use mathlib.Core.Path.{◌≡◌, refl, sym, ap, ◌∙◌}
 use lib.Dec.{leb}
-use lib.ListN.{length, get_or, set, take, drop, replicate, length-set}
+use lib.ListN.{length, get_or, set, take, drop, replicate}
 use lib.Seq.{drop-cons, set_at, take-suc, take-length, length-take-le}
 use borrow.Author.Tests.{leb-true, le-leb, lt-leb}
 use Rattle.layout.specs.Written.{row_width}
@@ -28,10 +28,6 @@ use Rattle.directory.proofs.Records.{length_records}
 use Rattle.directory.proofs.Ready.{Stored, leads}
 use Rattle.layout.specs.Answers as answers
 use Rattle.table.specs.declared.Answer as declared
-
-pub length_put : (rs : List Record) (n : ℕ) (l : List Record) → length (records_put rs n l) ≡ length l
-length_put rs zero l = refl
-length_put rs (suc n) l = length-set (records_put rs n l) n (record_before zeros rs (suc n)) ∙ length_put rs n l
 
 before_is : (r : Record) (rs : List Record) (n : ℕ) → n < length rs → record_before r rs (suc n) ≡ get_or rs n zeros
 before_is r [] n h = absurd (omega arith)

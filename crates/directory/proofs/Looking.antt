@@ -7,7 +7,7 @@ use mathlib.Core.Path.{◌≡◌, refl, sym, ap, subst, ◌∙◌}
 use lib.Dec.{eqb, leb, ltb}
 use lib.ListN.{length, take, drop}
 use lib.Seq.{take-append_seam}
-use borrow.Author.Tests.{le-leb, lt-leb, lt-ltb, le-ltb, ltb-true, ltb-false, eq-eqb, ne_eqb, eqb-true, eqb-false}
+use borrow.Author.Tests.{le-leb, lt-leb, lt-ltb, le-ltb, ltb-true, ltb-false, eq-eqb, eqb-true, eqb-false}
 use Rattle.layout.specs.Layout.{leaves}
 use Rattle.layout.specs.Written.{bytes}
 use Rattle.layout.specs.Entities.{Entity}
@@ -39,12 +39,12 @@ use Rattle.section.specs.Private.{Reads}
 use Rattle.section.specs.declared.Progress.{Progress}
 use Rattle.section.proofs.Derivation.{kind_some, payload_some}
 use Rattle.section.proofs.Entries.{Come, come_start, Leads, leads, come_end, arrive_entities_refusal, reads_accepted, reads_refused}
-use Rattle.section.proofs.Decode.{framing_whole, framing_refused, refused_section}
+use Rattle.section.proofs.Decode.{refused_section}
 use Rattle.section.proofs.Section.{section_complete, section_sound}
 use Rattle.section.proofs.Next.{entry_none, entry_some}
 use Rattle.section.proofs.Rest.{rest_whole, First, rest_first, rest_none}
 use Rattle.directory.specs.Directory.{records_from}
-use Rattle.directory.specs.Holder.{ByteHolder, holder, unheld, unread, holder_from, entity_at}
+use Rattle.directory.specs.Holder.{ByteHolder, unheld, unread, holder_from, entity_at}
 use Rattle.directory.specs.Exact.{ExactHolder}
 use Rattle.directory.specs.Private.{IsHolder, entry_read, seen_after, held_by, held_in, Looked}
 use Rattle.directory.specs.declared.Seen.{Seen}
@@ -315,39 +315,6 @@ looks_start s table small position c e q t k = go c (sym e) k
     go : (c : Cursor) → new_cursor ≡ c → staged q t ≡ read_entry s (stage (read_state c table) 0) → Looks s position (record { cursor = c; entities = 0 }) q t (record { index = 0; next = 0; end = 0 })
     go c e k = subst (λ (x : Cursor). staged q t ≡ read_entry s (stage (read_state x table) 0) → Looks s position (record { cursor = x; entities = 0 }) q t (record { index = 0; next = 0; end = 0 })) e start k
 
--- The results of the small functions, by their tests
-module _ (p q : Progress) where
-  pub further_refused : (q.cursor.refusal ≡ 0 → ⊥) → false ≡ entry_read p q
-  further_refused n = sym (rw (ne_eqb q.cursor.refusal 0 n))
-
-  pub further_if : q.cursor.refusal ≡ 0 → ltb p.cursor.at q.cursor.at ≡ entry_read p q
-  further_if z = sym (rw (eq-eqb q.cursor.refusal 0 z))
-
-  module _ (seen : Seen) (position : ℕ) where
-    pub seen_still : position < p.cursor.at → seen ≡ seen_after seen p q position
-    seen_still h = sym (rw (lt-ltb position p.cursor.at h))
-
-    pub seen_now : p.cursor.at ≤ position → record { index = p.entities; next = q.entities; end = q.cursor.at } ≡ seen_after seen p q position
-    seen_now h = sym (rw (le-ltb position p.cursor.at h))
-
-module _ (look : Look) (position : ℕ) where
-  abbrev cursor : Cursor
-  cursor = look.progress.cursor
-
-  pub held_refused : (cursor.refusal ≡ 0 → ⊥) → unread cursor.refusal cursor.at ≡ held_in look position
-  held_refused n = sym (rw (ne_eqb cursor.refusal 0 n))
-
-  module _ (z : cursor.refusal ≡ 0) where
-    pub held_no_entity : look.seen.next ≤ look.seen.index → unheld ≡ held_in look position
-    held_no_entity h = sym (rw (eq-eqb cursor.refusal 0 z, le-leb look.seen.next look.seen.index h))
-
-    module _ (h : look.seen.index < look.seen.next) where
-      pub held_before : look.seen.end ≤ position → unheld ≡ held_in look position
-      held_before k = sym (rw (eq-eqb cursor.refusal 0 z, lt-leb look.seen.next look.seen.index h, le-leb look.seen.end position k))
-
-      pub held_in_lem : position < look.seen.end → holder look.seen.index ≡ held_in look position
-      held_in_lem k = sym (rw (eq-eqb cursor.refusal 0 z, lt-leb look.seen.next look.seen.index h, lt-leb look.seen.end position k))
-
 derived_at : (s : List ℕ) (d : Derivation) → Good s d → (position : ℕ) → entity_at s position ≡ holder_from 0 (records_from 0 (placed 0 d.items)) position
 unfolding entity_at
 derived_at s d g position = rw (section_complete s d g)
@@ -369,14 +336,14 @@ module _ (s : List ℕ) (u : Bytes s) (position : ℕ) where
   module _ (small : length s ≤ limit) (at : ℕ) (look : Look) (t : List ℕ) (l : Looked s position at (staged look.progress t) look.seen) (f : Framed) (e : framing_of f ≡ end_of (framing_from s at)) where
     -- 2 to 4
     pub looked_unframed : (x : Refusal) → f ≡ Refused x → (unread x.number x.place ≡ entity_at s position) × ExactHolder s position (unread x.number x.place)
-    looked_unframed x k = both (unread x.number x.place) (refused_at x.number x.place (refused_section s small x.number x.place (framing_refused l.walks.walked f e x k)))
+    looked_unframed x k = both (unread x.number x.place) (refused_at x.number x.place (refused_section s small x.number x.place (l.walks.walked.rest ∙ sym e ∙ ap framing_of k)))
 
     -- 5 to 12, or what was seen
     pub looked_whole : (end : ℕ) → f ≡ Whole end → (h : ByteHolder) → h ≡ held_in look position → (h ≡ entity_at s position) × ExactHolder s position h
     looked_whole end k h j = both h (j ∙ go (eqb look.progress.cursor.refusal 0) refl)
       where
         read_so : Reads l.table end (staged look.progress t) (read_section s)
-        read_so = l.walks.reads end (framing_whole l.walks.walked f e end k)
+        read_so = l.walks.reads end (l.walks.walked.rest ∙ sym e ∙ ap framing_of k)
 
         accepted : (z : look.progress.cursor.refusal ≡ 0) → held_by look.seen position ≡ entity_at s position
         accepted z =

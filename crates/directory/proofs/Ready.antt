@@ -34,12 +34,6 @@ module _ {s t : List ℕ} {r : Record} (b : Between s t r) (row : Row) (e : row 
     size_is : size ≡ length (bytes_of b.next.content)
     size_is = z ∙ ap (λ (n : ℕ). number_or0 s (n - 4)) offset_is ∙ b.there.size
 
-    pub size_small : size ≤ limit
-    size_small = omega (arith, size_is, b.there.ends)
-
-    pub end_small : row.offset - 4 + (4 + size) ≤ limit
-    end_small = omega (arith, offset_is, start_there, size_is, b.there.ends)
-
     pub guessed : Guessed t (row_after r + r.row_count) (row.offset - 4) (row.offset - 4 + (4 + size))
     guessed =
         let end : row.offset - 4 + (4 + size) ≡ b.next.at + length (bytes_of b.next.content) = omega (arith, offset_is, start_there, size_is) in
@@ -130,10 +124,11 @@ pub record Leads (s t : List ℕ) (r x : Record) : Type 0 where
 
 pub leads : {s t : List ℕ} {at row : ℕ} (is : List Item) → Stored s t at row is → (r : Record) → row_after r ≡ row → (i : ℕ) → i < length (placed at is)
     → Leads s t (record_before r (records_from row (placed at is)) i) (record_before r (records_from row (placed at is)) (suc i))
-leads [] w r q i h = absurd (omega arith)
-leads (sentinel ∷ is) w r q i h = leads is (past_sentinel w) r q i h
-leads {s} {t} {at} {row} (entity v ∷ is) w r q zero h =
+leads {s = s} {t = t} {at = at} {row = row} [] w r q i h = absurd (omega arith)
+leads {s = s} {t = t} {at = at} {row = row} (sentinel ∷ is) w r q i h = leads {s = s} {t = t} {at = at + 4 + length (payload sentinel)} {row = row} is (past_sentinel w) r q i h
+leads {s = s} {t = t} {at = at} {row = row} (entity v ∷ is) w r q zero h =
     let there : EntityIn s t (row_after r) (e w) = rw q (entity_in w) in
     let b : Between s t r = record { next = e w; there = there } in
     record { between = b; to = λ y a. a b ∙ ap (λ (n : ℕ). record_of n (e w)) q }
-leads {at = at} {row = row} (entity v ∷ is) w r q (suc i) h = leads is (past_entity w) (record_of row (e w)) refl i (omega arith)
+leads {s = s} {t = t} {at = at} {row = row} (entity v ∷ is) w r q (suc i) h =
+    leads {s = s} {t = t} {at = at + 4 + length (bytes Entity v)} {row = row + length (leaves Entity v)} is (past_entity w) (record_of row (e w)) refl i (omega arith)

@@ -14,7 +14,6 @@ use Rattle.layout.specs.Entities.{Entity, value_in}
 use Rattle.layout.specs.Answers.{whole_rows}
 use Rattle.layout.proofs.Rows.{rows_length}
 use Rattle.table.specs.Table.{row_of}
-use Rattle.table.specs.declared.Row.{Row}
 use Rattle.table.proofs.Rows.{row_there, row_none}
 use Rattle.framing.specs.Entries.{sentinel_bytes}
 use Rattle.section.specs.Derivation.{Item, sentinel, entity, placed, rows_of}
@@ -142,14 +141,6 @@ module _ (t : List ℕ) (row at m : ℕ) (v : Value Entity) (is : List Item)
     inside = λ r low high. let k : (k : ℕ) × (r ≡ row + k) = (r - row, omega arith) in rw k.1 (row_among h k.0 (omega (arith, k.1)));
     beyond = λ r low. let k : (k : ℕ) × (r ≡ row + k) = (r - row, omega arith) in rw k.1 (row_behind k.0 (omega (arith, k.1)));
   }
-
--- The test of a row, by its two comparisons
-module _ (t : List ℕ) (start end row : ℕ) (x : Row) (e : x ≡ row_of t row) where
-  pub past_start : start < x.offset → leb x.offset end ≡ row_within t start end row
-  past_start h = rw (← e, lt-ltb start x.offset h)
-
-  pub not_past_start : x.offset ≤ start → ltb start x.offset ≡ row_within t start end row
-  not_past_start h = rw (← e, le-ltb start x.offset h)
 
 -- The table has a row that is within
 pub within_there : (t : List ℕ) (start end row : ℕ) → row_within t start end row ≡ true → row < whole_rows t

@@ -19,7 +19,7 @@ use table::{Answer, Refusal};
 // The record of an entity: its kind; where its entry starts, which is where its length is, and how long the entry is, with
 // the 4 bytes of that length; its first row, and how many rows it has. Rows are numbered from 0.
 #[repr(C)]
-#[derive(Drop)]
+#[derive(Clone, Copy)]
 pub struct Record {
     pub kind: u32,
     pub start: u32,

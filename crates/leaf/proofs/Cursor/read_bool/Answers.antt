@@ -1,7 +1,7 @@
 -- Refused, too many bytes, no byte left, neither 0 nor 1, or the flag.
 use Prim.Native.Nat.{◌+◌}
 use native.Mathlib.Omega.{arith}
-use lib.ListN.{length}
+use lib.ListN.{length, get_or}
 use borrow.Author.Tests.{lt-leb, le-leb, lt-ltb, le-ltb}
 use Rattle.leaf.proofs.Leaves.{refused_stays, long_stops, goes_on}
 use Rattle.leaf.specs.State.{read_plain}
@@ -28,7 +28,7 @@ returns-then-b-ge2 c =
     let args = c.args in
     let if1 = c.if-self-ne0 in
     let if2 = c.if-s-gt-LIMIT in
-    goes_on _ _ _ _ if1.false if2.false _ (simp (le-leb (args.self.at + 1) (length args.s.now) (omega arith), le-ltb _ 2 (rw c.wide-b.ensures.0 at c.if-b-ge2.true), c.stop-then-b-ge2.ensures))
+    goes_on _ _ _ _ if1.false if2.false _ (simp (le-leb (args.self.at + 1) (length args.s.now) (omega arith), le-ltb (get_or args.s.now args.self.at 0) 2 (omega (arith, c.wide-b.ensures.0)), c.stop-then-b-ge2.ensures))
 
 pub returns : goal.returns
 unfolding drive read_plain
@@ -37,4 +37,4 @@ returns c =
     let if1 = c.if-self-ne0 in
     let if2 = c.if-s-gt-LIMIT in
     let wide-ensures = c.wide-b.ensures in
-    goes_on _ _ _ _ if1.false if2.false _ (simp (le-leb (args.self.at + 1) (length args.s.now) (omega arith), ← wide-ensures.0, lt-ltb _ 2 c.if-b-ge2.false) c.store.ensures)
+    goes_on _ _ _ _ if1.false if2.false _ (simp (le-leb (args.self.at + 1) (length args.s.now) (omega arith), ← wide-ensures.0, lt-ltb c.wide-b.result 2 (omega arith)) c.store.ensures)

@@ -24,21 +24,14 @@ returns-then-p-gt-LIMIT c =
 pub returns-then-entry_end-cursor : goal.returns-then-entry_end-cursor
 returns-then-entry_end-cursor c =
     let args = c.args in
-    let if1 = c.if-cursor-ne0 in
-    let if2 = c.if-s-gt-LIMIT in
-    sym (entry_none args.s.now (staged args.p args.t.now) if1.false if2.false c.if-p-gt-LIMIT.false (omega (arith, c.if-entry_end-cursor.true, c.entry_end.ensures)))
+    sym (entry_none args.s.now (staged args.p args.t.now) c.if-cursor-ne0.false c.if-s-gt-LIMIT.false c.if-p-gt-LIMIT.false (omega (arith, c.if-entry_end-cursor.true, c.entry_end.ensures)))
 
 pub read_whole_entry-requires : goal.read_whole_entry-requires
 read_whole_entry-requires c =
     let args = c.args in
-    let bytes = c.type_inv.s in
-    let if2 = c.if-s-gt-LIMIT in
-    record { fact_1 = (whole_here args.s.now args.p.cursor.at (omega (arith, c.if-entry_end-cursor.false, c.entry_end.ensures))).2; fact_2 = if2.false; fact_3 = c.if-p-gt-LIMIT.false; fact_4 = (λ i h. omega (arith, bytes i)) }
+    record { fact_1 = (whole_here args.s.now args.p.cursor.at (omega (arith, c.if-entry_end-cursor.false, c.entry_end.ensures))).2; fact_2 = c.if-s-gt-LIMIT.false; fact_3 = c.if-p-gt-LIMIT.false; fact_4 = λ i h. omega (arith, c.type_inv.s i) }
 
 pub returns : goal.returns
 returns c =
     let args = c.args in
-    let if1 = c.if-cursor-ne0 in
-    let if2 = c.if-s-gt-LIMIT in
-    let if3 = c.if-p-gt-LIMIT in
-    c.read_whole_entry.ensures ∙ sym (entry_some args.s.now (staged args.p args.t.now) if1.false if2.false if3.false (omega (arith, c.if-entry_end-cursor.false)))
+    c.read_whole_entry.ensures ∙ sym (entry_some args.s.now (staged args.p args.t.now) c.if-cursor-ne0.false c.if-s-gt-LIMIT.false c.if-p-gt-LIMIT.false (omega (arith, c.if-entry_end-cursor.false)))

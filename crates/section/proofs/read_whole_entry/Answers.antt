@@ -20,14 +20,11 @@ returns-then-is_sentinel c =
 
 pub slice_bounds-read_entity-end : goal.slice_bounds-read_entity-end
 slice_bounds-read_entity-end c =
-    let pre = c.requires in
-    let n = c.number_at in
-    sym (length-take-le _ _ (omega (arith, n.ensures, pre.fact_1)))
+    sym (length-take-le _ _ (omega (arith, c.number_at.ensures, c.requires.fact_1)))
 
 pub overflow_add-result : goal.overflow_add-result
 overflow_add-result c =
-    let pre = c.requires in
-    omega (arith, pre.fact_3)
+    omega (arith, c.requires.fact_3)
 
 pub returns : goal.returns
 returns c =
@@ -36,8 +33,5 @@ returns c =
     let s = args.s.now in
     let at = args.p.cursor.at in
     let n = c.number_at in
-    let is_sentinel = c.is_sentinel in
-    let if1 = c.if-is_sentinel in
-    let seek2 = c.seek-2 in
-    let test = payload_test s (at + 4) (at + 4 + n.result) (omega arith) (omega (arith, pre.fact_1)) _ is_sentinel.ensures.value in
-    entry_entity s (staged args.p args.t.now) _ n.ensures _ test if1.false _ seek2.ensures _ c.read_entity-c.ensures _ c.finish.ensures
+    let test = payload_test s (at + 4) (at + 4 + n.result) (omega arith) (omega (arith, pre.fact_1)) _ c.is_sentinel.ensures.value in
+    entry_entity s (staged args.p args.t.now) _ n.ensures _ test c.if-is_sentinel.false _ c.seek-2.ensures _ c.read_entity-c.ensures _ c.finish.ensures

@@ -36,15 +36,17 @@
 // and the tally of the sections accepted and refused.
 #![tactic(auto)]
 
-ghost use Rattle.std.specs.Prelude.{◌≤◌, length};
+ghost use Rattle.std.specs.Prelude.{◌≡◌, ◌≤◌, length};
 
 use directory::Holder;
 use layout::ROW_WIDTH;
 use length::Length;
-use libc::{STDIN_FILENO, STDOUT_FILENO};
 use parts::{NameStart, NameWalk};
 use paths::PathReport;
 use place::PartPlace;
+use std::io;
+use std::io::Read;
+use streams::read_full;
 use table::{Answer, Refusal, Row};
 use tally::{Tallied, Tally};
 use text::{State, TextCheck};
@@ -73,8 +75,11 @@ const MOST_BUFFER: usize = 1024;
 
 const FILL_BYTE: u8 = 0xee;
 
-// The space for the text of an answer, that of `io::large_buffer`.
+// The space for a case, for its bytes, and for the text of its answer.
 const OUT_SIZE: usize = 65536;
+
+// The hexadecimal digits.
+const HEX_DIGITS: [u8; 16] = *b"0123456789abcdef";
 
 // The digits of the length before a case.
 const LENGTH_DIGITS: usize = 5;
@@ -87,40 +92,51 @@ const END: usize = 1000000;
 
 const BAD: usize = 1000001;
 
-fn main() {
-    let mut line = io::large_buffer();
-    let mut space = io::large_buffer();
-    let counts = run_all(&mut line, &mut space);
-    counts.print();
+fn main(rt: HostRuntime) -> io::Result<()> {
+    let mut line = large_buffer();
+    let mut space = large_buffer();
+    let counts = run_all(&rt, &mut rt.stdin(), &mut line, &mut space)?;
+    counts.print(&rt)
+}
+
+fn large_buffer() -> [u8; OUT_SIZE]
+    ensures { 65536 ≡ length result }
+{
+    [0; OUT_SIZE]
 }
 
 // Reads one case after the other into line and runs it, with its bytes in space.
-fn run_all(line: &mut [u8], space: &mut [u8]) -> Counts {
+fn run_all(
+    rt: &impl Print,
+    input: &mut impl Read,
+    line: &mut [u8],
+    space: &mut [u8],
+) -> io::Result<Counts> {
     let mut counts = Counts::new();
     let mut number = 0;
     while number < TOO_MANY {
-        let n = read_case(line);
+        let n = read_case(input, line)?;
         if line.len() < n {
-            return end_at(n, counts);
+            return end_at(rt, n, counts);
         }
-        counts = run(&line[..n], number, space, counts);
+        counts = run(rt, &line[..n], number, space, counts)?;
         number += 1;
     }
-    bad_input(counts)
+    bad_input(rt, counts)
 }
 
 // The counts after what is no case: nothing, or what ends the run.
-fn end_at(n: usize, counts: Counts) -> Counts {
+fn end_at(rt: &impl Print, n: usize, counts: Counts) -> io::Result<Counts> {
     if n == END {
-        return counts;
+        return Ok(counts);
     }
-    bad_input(counts)
+    bad_input(rt, counts)
 }
 
 // What cannot be read as a case is a difference, and ends the run.
-fn bad_input(counts: Counts) -> Counts {
-    io::write_all(STDOUT_FILENO, b"bad input\n");
-    counts.differed()
+fn bad_input(rt: &impl Print, counts: Counts) -> io::Result<Counts> {
+    println!(rt; "bad input")?;
+    Ok(counts.differed())
 }
 
 // How many cases were run, how many differ, how many bytes the last one has, and the tally of the sections.
@@ -158,13 +174,12 @@ impl Counts {
         self
     }
 
-    fn print(self) {
+    fn print(self, rt: &impl Print) -> io::Result<()> {
         let tally = self.tally;
-        print_count(b"cases ", self.cases as u64);
-        print_count(b"differ ", self.differ as u64);
-        io::write_all(STDOUT_FILENO, b"tally ");
-        io::print_decimal(STDOUT_FILENO, wide_number(tally.accepted));
-        print_count(b" ", wide_number(tally.refused));
+        print_count(rt, "cases ", self.cases as u64)?;
+        print_count(rt, "differ ", self.differ as u64)?;
+        print!(rt; "tally {}", tally.accepted)?;
+        print_count(rt, " ", wide_number(tally.refused))
     }
 }
 
@@ -173,75 +188,80 @@ fn more(n: usize) -> usize {
     if n < TOO_MANY { n + 1 } else { n }
 }
 
-fn print_count(name: &[u8], n: u64) {
-    io::write_all(STDOUT_FILENO, name);
-    io::print_decimal(STDOUT_FILENO, n);
-    io::write_all(STDOUT_FILENO, b"\n");
+fn print_count(rt: &impl Print, name: &str, n: u64) -> io::Result<()> {
+    println!(rt; "{name}{n}")
 }
 
 // Reads the next case to the start of line, and the end of its line after it, and answers the case's length.
-fn read_case(line: &mut [u8]) -> usize {
+fn read_case(input: &mut impl Read, line: &mut [u8]) -> io::Result<usize> {
     let mut head = [0u8; LENGTH_DIGITS + 1];
-    let n = io::read_full(STDIN_FILENO, &mut head);
+    let n = read_full(input, &mut head)?;
     if n == 0 {
-        return END;
+        return Ok(END);
     }
     if n != LENGTH_DIGITS + 1 {
-        return BAD;
+        return Ok(BAD);
     }
     if head[LENGTH_DIGITS] != b' ' {
-        return BAD;
+        return Ok(BAD);
     }
     let mut size = [0u32; 1];
     if !parse_numbers(&head[..LENGTH_DIGITS], &mut size) {
-        return BAD;
+        return Ok(BAD);
     }
-    read_line(line, wide_number(size[0]) as usize)
+    read_line(input, line, wide_number(size[0]) as usize)
 }
 
 // Reads a line of size bytes and its end.
-fn read_line(line: &mut [u8], size: usize) -> usize {
+fn read_line(input: &mut impl Read, line: &mut [u8], size: usize) -> io::Result<usize> {
     if line.len() <= size {
-        return BAD;
+        return Ok(BAD);
     }
     let end = size + 1;
-    let n = io::read_full(STDIN_FILENO, &mut line[..end]);
+    let n = read_full(input, &mut line[..end])?;
     if n != end {
-        return BAD;
+        return Ok(BAD);
     }
     if line[size] != b'\n' {
-        return BAD;
+        return Ok(BAD);
     }
-    size
+    Ok(size)
 }
 
 // Runs a case, the one with that number, and counts it.
-fn run(case: &[u8], number: usize, space: &mut [u8], counts: Counts) -> Counts {
+fn run(
+    rt: &impl Print,
+    case: &[u8],
+    number: usize,
+    space: &mut [u8],
+    counts: Counts,
+) -> io::Result<Counts> {
     let mut numbers = [0u32; CASE_NUMBERS];
     let n = parse(after(case), &mut numbers, space, counts.bytes);
-    run_parsed(case, number, &numbers, space, n, counts)
+    run_parsed(rt, case, number, &numbers, space, n, counts)
 }
 
 // Runs a case with its numbers, whose bytes are the first n of space.
 fn run_parsed(
+    rt: &impl Print,
     case: &[u8],
     number: usize,
     numbers: &[u32; CASE_NUMBERS],
     space: &[u8],
     n: usize,
     counts: Counts,
-) -> Counts {
+) -> io::Result<Counts> {
     if space.len() < n {
-        return judge(case, b"", b"bad case", counts);
+        return judge(rt, case, b"", b"bad case", counts);
     }
     let letter = first(case);
-    let mut out = io::large_buffer();
+    let mut out = large_buffer();
     let tally = counts.tally;
     let ran = answer(letter, numbers, number, &space[..n], &mut out, tally);
     let end = ran.end;
     let tally = ran.tally;
     let right = after(after(after(case)));
-    judge(case, right, start_of(&out, end), counts.ran(n, tally))
+    judge(rt, case, right, start_of(&out, end), counts.ran(n, tally))
 }
 
 // The first bytes of the space for answers.
@@ -254,15 +274,21 @@ fn start_of<'a>(out: &'a [u8; OUT_SIZE], end: usize) -> &'a [u8] {
 }
 
 // Prints a case and its answer, unless that is the right one.
-fn judge(case: &[u8], right: &[u8], answer: &[u8], counts: Counts) -> Counts {
-    if check::same(answer, right) {
-        return counts;
+fn judge(
+    rt: &impl Print,
+    case: &[u8],
+    right: &[u8],
+    answer: &[u8],
+    counts: Counts,
+) -> io::Result<Counts> {
+    if answer == right {
+        return Ok(counts);
     }
-    io::write_all(STDOUT_FILENO, case);
-    io::write_all(STDOUT_FILENO, b"\n");
-    io::write_all(STDOUT_FILENO, answer);
-    io::write_all(STDOUT_FILENO, b"\n");
-    counts.differed()
+    rt.write_all(case)?;
+    rt.write_all(b"\n")?;
+    rt.write_all(answer)?;
+    rt.write_all(b"\n")?;
+    Ok(counts.differed())
 }
 
 // The letter of a case, or 0 where there is none.
@@ -345,10 +371,10 @@ fn parse_digit(out: &mut [u32], i: usize, c: u8) -> usize {
 
 // Puts the bytes of a field into out, where those of the case before still stand, and answers their number.
 fn parse_bytes(s: &[u8], out: &mut [u8], before: usize) -> usize {
-    if check::same(s, b"-") {
+    if s == b"-".as_slice() {
         return 0;
     }
-    if check::same(s, b"=") {
+    if s == b"=".as_slice() {
         return before;
     }
     parse_pairs(s, out)
@@ -916,10 +942,11 @@ fn put_blank(out: &mut [u8; OUT_SIZE], at: usize) -> usize {
 }
 
 fn put_number(out: &mut [u8; OUT_SIZE], at: usize, n: u64) -> usize {
-    let mut digits = [0u8; 20];
-    let k = io::decimal(n, &mut digits);
+    let digits = decimal::decimal(n);
+    let bytes = digits.bytes;
+    let len = digits.len;
     let end = put_blank(out, at);
-    put(out, end, &digits[..k])
+    put(out, end, &bytes[..len])
 }
 
 fn put_numbers(out: &mut [u8; OUT_SIZE], at: usize, t: &[u32]) -> usize {
@@ -956,7 +983,7 @@ fn put_digits(out: &mut [u8; OUT_SIZE], at: usize, s: &[u8]) -> usize {
 }
 
 fn put_byte(out: &mut [u8; OUT_SIZE], at: usize, x: u8) -> usize {
-    let mut digits = [0u8; 16];
-    let k = io::hex(wide(x), 2, &mut digits);
-    put(out, at, &digits[..k])
+    let high = HEX_DIGITS[(x / 16) as usize];
+    let low = HEX_DIGITS[(x % 16) as usize];
+    put(out, at, &[high, low])
 }

@@ -5,18 +5,19 @@
 ghost use Rattle.std.specs.Prelude.{◌≡◌, length};
 ghost use Rattle.listing.specs.Listing.{most_listed};
 
-use libc::{STDIN_FILENO, STDOUT_FILENO};
+use std::io;
+use streams::read_full;
 
 // One byte more than is listed, so that a longer input is noticed.
 const INPUT_SPACE: usize = object::MOST_OBJECT + 1;
 
 // The schema section of an extension is called .pgrxsc.
-fn main() {
+fn main(rt: HostRuntime) -> io::Result<()> {
     let mut input = input_space();
-    let n = io::read_full(STDIN_FILENO, &mut input);
+    let n = read_full(&mut rt.stdin(), &mut input)?;
     let mut out = output_space();
     let len = object::object_listing(&input[..n], b".pgrxsc", &mut out);
-    io::write_all(STDOUT_FILENO, &out[..len]);
+    rt.write_all(&out[..len])
 }
 
 fn input_space() -> [u8; INPUT_SPACE] {

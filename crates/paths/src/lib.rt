@@ -12,7 +12,7 @@ ghost use Rattle.paths.specs.Private.{T, N, after_fields, path_place, path_mark,
 use table::{Answer, Refusal};
 
 // The number of pairs, or a section's refusal.
-#[derive(Drop)]
+#[derive(Clone, Copy)]
 pub enum PathReport {
     Counted { pairs: u64 },
     Refused(Refusal),

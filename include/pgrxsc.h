@@ -1,9 +1,9 @@
 /*
  * pgrxsc: a proved reader and writer of pgrx schema sections.
  *
- * Link the archive that `rt staticlib pgrxsc` makes (target/staticlib/libpgrxsc.a). It needs nothing but the C library's memset,
- * reserves no memory, keeps no state and writes nowhere but to what it is lent. So all functions may be called from several
- * threads at a time. docs/FORMAT.md describes the format, the rows and the refusals at length.
+ * Link the archive that `rt lib`, run in crates/pgrxsc, makes (crates/pgrxsc/out/libpgrxsc.a). It needs nothing but the C
+ * library's memset, reserves no memory, keeps no state and writes nowhere but to what it is lent. So all functions may be called
+ * from several threads at a time. docs/FORMAT.md describes the format, the rows and the refusals at length.
  *
  * Bytes, tables and lists are lent as a pointer and a length; the length of a table counts its 32-bit numbers, and that of a list
  * its records. A pointer must not be NULL, also where the length is 0, and what a call may change must not overlap what else it

@@ -20,7 +20,7 @@ fn main() {
     }
 
     // Cargo runs this program in the folder of Cargo.toml, so a relative path counts from there.
-    let folder = env::var_os("PGRXSC_LIB").unwrap_or_else(|| "../target/staticlib".into());
+    let folder = env::var_os("PGRXSC_LIB").unwrap_or_else(|| "../crates/pgrxsc/out".into());
     let folder = env::current_dir()
         .expect("the folder of Cargo.toml is there")
         .join(folder);
@@ -28,8 +28,8 @@ fn main() {
     if !archive.is_file() {
         println!(
             "cargo:warning=There is no libpgrxsc.a in {}. `cargo check` and `cargo doc` work \
-             without it. To link, run `rt staticlib pgrxsc` in the repository, which puts it in \
-             target/staticlib, or name its folder in the environment variable PGRXSC_LIB.",
+             without it. To link, run `rt lib` in the repository's folder crates/pgrxsc, which puts it \
+             in crates/pgrxsc/out, or name its folder in the environment variable PGRXSC_LIB.",
             folder.display()
         );
     }

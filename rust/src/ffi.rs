@@ -189,8 +189,9 @@ fn compare_version(archive: u32) {
     assert!(
         archive == VERSION,
         "libpgrxsc.a is of version {archive}, but the crate pgrxsc is of version {VERSION}. Run \
-         `rt staticlib pgrxsc` in the repository that has the crate, or name the folder of an \
-         archive made from the same state of the repository in the environment variable PGRXSC_LIB."
+         `rt lib` in the folder crates/pgrxsc of the repository that has the crate, or name the \
+         folder of an archive made from the same state of the repository in the environment variable \
+         PGRXSC_LIB."
     );
 }
 

@@ -148,10 +148,10 @@
 //!
 //! # Building
 //!
-//! The crate links `libpgrxsc.a`, which `rt staticlib pgrxsc` puts in `target/staticlib` of the
-//! repository. For an archive in another folder, name the folder in the environment variable
-//! `PGRXSC_LIB`. `cargo check` and `cargo doc` do without the archive. The target must be x86-64
-//! Linux.
+//! The crate links `libpgrxsc.a`, which `rt lib`, run in the repository's folder `crates/pgrxsc`,
+//! puts in `crates/pgrxsc/out`. For an archive in another folder, name the folder in the environment
+//! variable `PGRXSC_LIB`. `cargo check` and `cargo doc` do without the archive. The target must be
+//! x86-64 Linux.
 
 #![deny(unsafe_code)]
 #![deny(missing_docs)]
@@ -189,8 +189,8 @@ pub use writing::{
 /// is gone.
 ///
 /// The first call of the archive compares it with the archive's own version, and panics if they
-/// differ. Then crate and archive are of different states of the repository: run
-/// `rt staticlib pgrxsc` again.
+/// differ. Then crate and archive are of different states of the repository: run `rt lib` in
+/// `crates/pgrxsc` again.
 pub const VERSION: u32 = 2;
 
 /// The most bytes that are read or written: 16 MiB.

@@ -13,14 +13,14 @@ use table::Answer;
 const MOST: u32 = 4294967295;
 
 // How many readings were accepted, and how many refused.
-#[derive(Drop)]
+#[derive(Clone, Copy)]
 pub struct Tally {
     pub accepted: u32,
     pub refused: u32,
 }
 
 // An answer, and the tally after it.
-#[derive(Drop)]
+#[derive(Clone, Copy)]
 pub struct Tallied {
     pub answer: Answer,
     pub tally: Tally,

@@ -1,0 +1,18 @@
+-- The answer of the reading, in numbers.
+use native.Mathlib.Omega.{arith}
+use Rattle.layout.specs.Entities.{FunctionMetadataType}
+use Rattle.pgrxsc.proofs.Numbers.{value_told}
+use Rattle.pgrxsc.proofs.pgrxsc_read_metadata.Goals as goal
+
+pub decode_function_metadata_type-requires : goal.decode_function_metadata_type-requires
+decode_function_metadata_type-requires c = tt
+
+pub answer_numbers-requires : goal.answer_numbers-requires
+answer_numbers-requires c = tt
+
+pub returns : goal.returns
+returns c =
+    let shared-slice-known-given = c.type_inv.bytes in
+    let a = c.args in
+    let told = value_told FunctionMetadataType 0 a.bytes.now a.table.now (λ i h. omega (arith, shared-slice-known-given i)) _ c.decode_function_metadata_type.result _ c.answer_numbers.ensures c.decode_function_metadata_type.ensures.t_after in
+    record { answer_after = told.0; table_after = told.1.0; exact_alone = told.1.1 }

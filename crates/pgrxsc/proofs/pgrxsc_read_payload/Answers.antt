@@ -1,0 +1,18 @@
+-- The answer of the reading, in numbers.
+use native.Mathlib.Omega.{arith}
+use Rattle.layout.specs.Entities.{Entity}
+use Rattle.pgrxsc.proofs.Numbers.{value_told}
+use Rattle.pgrxsc.proofs.pgrxsc_read_payload.Goals as goal
+
+pub decode_entity-requires : goal.decode_entity-requires
+decode_entity-requires c = tt
+
+pub answer_numbers-requires : goal.answer_numbers-requires
+answer_numbers-requires c = tt
+
+pub returns : goal.returns
+returns c =
+    let shared-slice-known-given = c.type_inv.bytes in
+    let a = c.args in
+    let told = value_told Entity 1 a.bytes.now a.table.now (λ i h. omega (arith, shared-slice-known-given i)) _ c.decode_entity.result _ c.answer_numbers.ensures c.decode_entity.ensures.t_after in
+    record { answer_after = told.0; table_after = told.1.0; exact_alone = told.1.1 }

@@ -1,0 +1,19 @@
+-- The answer of the writing, in numbers.
+use mathlib.Core.Path.{ap, ◌∙◌}
+use Rattle.layout.specs.Entities.{SqlMapping}
+use Rattle.entry_writer.specs.Refusals.{alone, ExactWriting}
+use Rattle.packing.specs.Numbers.{length_numbers}
+use Rattle.pgrxsc.proofs.Numbers.{length_told_lem}
+use Rattle.pgrxsc.proofs.pgrxsc_write_mapping.Goals as goal
+
+pub encode_sql_mapping-requires : goal.encode_sql_mapping-requires
+encode_sql_mapping-requires c = tt
+
+pub length_numbers-requires : goal.length_numbers-requires
+length_numbers-requires c = tt
+
+pub returns : goal.returns
+returns c =
+    let a = c.args in
+    let e = c.encode_sql_mapping.ensures in
+    record { answer_after = c.length_numbers.ensures ∙ ap length_numbers e.result_value; dest_after = e.dest_after; exact_writing = length_told_lem (λ l. ExactWriting (alone SqlMapping) a.rows.now a.text.now a.dest.now l c.encode_sql_mapping.new.dest) _ _ c.length_numbers.ensures e.exact_writing.refuses e.exact_writing }

@@ -1,0 +1,19 @@
+-- The answer of the writing, in numbers.
+use mathlib.Core.Path.{ap, ◌∙◌}
+use Rattle.layout.specs.Entities.{Entity}
+use Rattle.entry_writer.specs.Refusals.{alone, ExactWriting}
+use Rattle.packing.specs.Numbers.{length_numbers}
+use Rattle.pgrxsc.proofs.Numbers.{length_told_lem}
+use Rattle.pgrxsc.proofs.pgrxsc_write_payload.Goals as goal
+
+pub encode_entity-requires : goal.encode_entity-requires
+encode_entity-requires c = tt
+
+pub length_numbers-requires : goal.length_numbers-requires
+length_numbers-requires c = tt
+
+pub returns : goal.returns
+returns c =
+    let a = c.args in
+    let e = c.encode_entity.ensures in
+    record { answer_after = c.length_numbers.ensures ∙ ap length_numbers e.result_value; dest_after = e.dest_after; exact_writing = length_told_lem (λ l. ExactWriting (alone Entity) a.rows.now a.text.now a.dest.now l c.encode_entity.new.dest) _ _ c.length_numbers.ensures e.exact_writing.refuses e.exact_writing }

@@ -10,7 +10,7 @@ use lib.Seq.{ext_get_or, get_or-append-add, get_or-drop}
 use borrow.Author.Tests.{leb-true, leb-false, ltb-true, ltb-false, le-leb, lt-leb, ne_eqb}
 use Rattle.layout.specs.Written.{row_width, rows_from}
 use Rattle.layout.specs.Reading.{Outcome, ok, refuse}
-use Rattle.layout.specs.Answers.{Accepts, whole_rows, acceptance}
+use Rattle.layout.specs.Answers.{refused, Accepts, whole_rows, acceptance}
 use Rattle.layout.specs.Theorems.{Bytes, Told}
 use Rattle.layout.proofs.Walk.{all_ok}
 use Rattle.layout.proofs.Rows.{rows_length}
@@ -49,7 +49,8 @@ module _ (s table : List ℕ) (list : List Record) where
 
     few_records_is : (gives d).leaf_count ≤ whole_rows table → length list < (gives d).entities → directory s table list ≡ refused_listed 21 0 table list
     unfolding directory reading_for reading directory_of
-    few_records_is h k = rw (section_complete s d g, le-leb (total_leaves (entities_of d)) (whole_rows table) h, lt-leb (length (entities_of d)) (length list) k, length_accepted (entities_of d) table h)
+    few_records_is h k = rw (section_complete s d g, le-leb (total_leaves (entities_of d)) (whole_rows table) h, lt-leb (length (entities_of d)) (length list) k)
+        (ap (λ (n : ℕ). record { result = record { answer = refused 21 0; table = replicate n 0 }; list = list }) (length_accepted (entities_of d) table h))
 
     few_rows_is : whole_rows table < (gives d).leaf_count → directory s table list ≡ refused_listed 13 0 table list
     unfolding directory reading_for reading directory_of

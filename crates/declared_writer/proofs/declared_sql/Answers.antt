@@ -26,16 +26,16 @@ unfolding DeclaredSql
 returns-in-1 c =
     let argument-sql = c.argument_sql-w in
     let if1 = c.if-w-ne0 in
-    let verdict = verdict_mapping _ _ _ _ argument-sql.ensures if1.false _ c.row_at-result.ensures c.if-result-ne-RESULT_OK.false _ c.row_at-mapping.ensures in
-    check_law _ _ _ _ _ _ argument-sql.ensures (rw (verdict, c.in-1.is))
+    let as-verdict = verdict_mapping _ _ _ _ argument-sql.ensures if1.false _ c.row_at-result.ensures c.if-result-ne-RESULT_OK.false _ c.row_at-mapping.ensures in
+    check_law _ _ _ _ _ _ argument-sql.ensures (rw (as-verdict, c.in-1.is))
 
 pub returns-in-3 : goal.returns-in-3
 unfolding DeclaredSql
 returns-in-3 c =
     let argument-sql = c.argument_sql-w in
     let if1 = c.if-w-ne0 in
-    let verdict = verdict_mapping _ _ _ _ argument-sql.ensures if1.false _ c.row_at-result.ensures c.if-result-ne-RESULT_OK.false _ c.row_at-mapping.ensures in
-    check_law _ _ _ _ _ _ argument-sql.ensures (rw (verdict, c.in-3.is))
+    let numeric-verdict = verdict_mapping _ _ _ _ argument-sql.ensures if1.false _ c.row_at-result.ensures c.if-result-ne-RESULT_OK.false _ c.row_at-mapping.ensures in
+    check_law _ _ _ _ _ _ argument-sql.ensures (rw (numeric-verdict, c.in-3.is))
 
 pub returns-in_default : goal.returns-in_default
 unfolding DeclaredSql

@@ -4,12 +4,6 @@ use Rattle.layout.specs.Entities.{Entity}
 use Rattle.pgrxsc.proofs.Numbers.{value_told}
 use Rattle.pgrxsc.proofs.pgrxsc_read_payload.Goals as goal
 
-pub decode_entity-requires : goal.decode_entity-requires
-decode_entity-requires c = tt
-
-pub answer_numbers-requires : goal.answer_numbers-requires
-answer_numbers-requires c = tt
-
 pub returns : goal.returns
 returns c =
     let shared-slice-known-given = c.type_inv.bytes in

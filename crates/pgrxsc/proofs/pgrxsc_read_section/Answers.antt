@@ -3,12 +3,6 @@ use native.Mathlib.Omega.{arith}
 use Rattle.pgrxsc.proofs.Numbers.{section_told}
 use Rattle.pgrxsc.proofs.pgrxsc_read_section.Goals as goal
 
-pub decode_entities-requires : goal.decode_entities-requires
-decode_entities-requires c = tt
-
-pub answer_numbers-requires : goal.answer_numbers-requires
-answer_numbers-requires c = tt
-
 pub returns : goal.returns
 returns c =
     let shared-slice-known-given = c.type_inv.bytes in

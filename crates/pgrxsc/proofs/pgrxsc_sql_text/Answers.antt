@@ -3,15 +3,6 @@ use mathlib.Core.Path.{ap, ◌∙◌}
 use Rattle.packing.specs.Numbers.{place_numbers, in_buffer}
 use Rattle.pgrxsc.proofs.pgrxsc_sql_text.Goals as goal
 
-pub place_sql_text-place-requires : goal.place_sql_text-place-requires
-place_sql_text-place-requires c = tt
-
-pub place_numbers-requires : goal.place_numbers-requires
-place_numbers-requires c = tt
-
-pub in_buffer-requires : goal.in_buffer-requires
-in_buffer-requires c = tt
-
 pub returns : goal.returns
 returns c = let e = c.place_sql_text-place.ensures in
     record { value = c.in_buffer.ensures ∙ ap in_buffer e.result_value; answer_after = c.place_numbers.ensures ∙ ap place_numbers e.result_value; buffer_after = e.buffer_after }

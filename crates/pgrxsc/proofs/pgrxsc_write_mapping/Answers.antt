@@ -6,12 +6,6 @@ use Rattle.packing.specs.Numbers.{length_numbers}
 use Rattle.pgrxsc.proofs.Numbers.{length_told_lem}
 use Rattle.pgrxsc.proofs.pgrxsc_write_mapping.Goals as goal
 
-pub encode_sql_mapping-requires : goal.encode_sql_mapping-requires
-encode_sql_mapping-requires c = tt
-
-pub length_numbers-requires : goal.length_numbers-requires
-length_numbers-requires c = tt
-
 pub returns : goal.returns
 returns c =
     let a = c.args in

@@ -6,12 +6,6 @@ use Rattle.packing.specs.Numbers.{length_numbers}
 use Rattle.pgrxsc.proofs.Numbers.{length_told_lem}
 use Rattle.pgrxsc.proofs.pgrxsc_write_metadata.Goals as goal
 
-pub encode_function_metadata_type-requires : goal.encode_function_metadata_type-requires
-encode_function_metadata_type-requires c = tt
-
-pub length_numbers-requires : goal.length_numbers-requires
-length_numbers-requires c = tt
-
 pub returns : goal.returns
 returns c =
     let a = c.args in

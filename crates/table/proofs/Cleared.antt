@@ -1,20 +1,20 @@
 -- A table that is cleared.
-use Prim.Native.Nat.{ℕ, suc, ◌+◌, ◌-◌, ◌≤◌, ◌<◌}
+use Prim.Native.Nat.{ℕ, ◌-◌, ◌≤◌}
 use native.Mathlib.Nat.{sub-zero}
 use native.Mathlib.Omega.{arith}
-use mathlib.Core.List.{List, [], ◌∷◌, append_assoc, append-nil}
-use mathlib.Core.Path.{◌≡◌}
-use lib.ListN.{length, take, set, length-set, replicate}
-use lib.Seq.{take-suc-set, take_all}
+use mathlib.Core.List.{List, ◌++◌, append-nil}
+use mathlib.Core.Path.{◌≡◌, ap}
+use lib.ListN.{length, take, drop, length-drop, drop_of_length-le, replicate}
+use lib.Seq.{take_all}
+use borrow.Rule.Slice.PartMut.{put_mid}
 use Rattle.table.specs.Table.{cleared}
 
--- Index after index
-pub cleared_step : (t : List ℕ) (i : ℕ) → i < length t → cleared (set t i 0) (i + 1) ≡ cleared t i
+-- The part from an index on, all 0
+pub cleared_part : (t : List ℕ) (i : ℕ) (zeros : List ℕ) → zeros ≡ replicate (length (take (length t - i) (drop i t))) 0 → put_mid i (length t - i) t zeros ≡ cleared t i
 unfolding cleared
-cleared_step t i h =
-    let a : i + 1 ≡ suc i = omega arith in
-    let b : length t - i ≡ suc (length t - (i + 1)) = omega arith in
-    rw (length-set t i 0, b, a, take-suc-set t i 0 h) (append_assoc (take i t) (0 ∷ []) _)
+cleared_part t i zeros e =
+    let whole : length (drop i t) ≤ length t - i = omega (arith, length-drop i t) in
+    rw (e, take_all (length t - i) (drop i t) whole, length-drop i t, drop_of_length-le (drop i t) whole) (ap (λ z. take i t ++ z) (append-nil _))
 
 pub cleared_end : (t : List ℕ) (i : ℕ) → length t ≤ i → cleared t i ≡ t
 unfolding cleared

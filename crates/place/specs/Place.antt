@@ -1,8 +1,10 @@
 -- Parts of the bytes given.
-use Rattle.std.specs.Prelude.{ℕ, ◌+◌, ◌-◌, List, [], take, drop}
+use Rattle.std.specs.Prelude.{ℕ, ◌+◌, ◌-◌, List, [], take, drop, Result, Ok, Err}
+use Rattle.std.specs.Borrow.{Bor}
 use Rattle.layout.specs.Reading.{Outcome, ok, refuse}
-use Rattle.place.specs.declared.PartPlace.{PartPlace}
-use Rattle.place.specs.declared.PartPlace.TheVariants.{Part, Refused}
+use Rattle.table.specs.declared.Refusal.{Refusal}
+use Rattle.table.specs.Answers.{number_of}
+use Rattle.place.specs.declared.Part.{Part}
 
 -- The part of some bytes from a start up to an end
 abbrev pub between : List ℕ → (start end : ℕ) → List ℕ
@@ -25,6 +27,22 @@ module _ {A : Type 0} where
   place_in (refuse n p) = p
 
 -- The meaning of each case of the code's answer: a start and an end; or a refusal's number and place
-abbrev pub found_part : PartPlace → Outcome ℕ ℕ
-found_part (Part start len) = ok start (start + len)
-found_part (Refused refusal) = refuse refusal.number refusal.place
+abbrev pub found_part : Result Part Refusal → Outcome ℕ ℕ
+found_part (Ok part) = ok part.start (part.start + part.len)
+found_part (Err refusal) = refuse (number_of refusal.kind) refusal.place
+
+-- The bytes that the code answers: none after a refusal
+abbrev pub bytes_told : Result (Bor (List ℕ)) Refusal → List ℕ
+bytes_told (Ok bytes) = bytes.now
+bytes_told (Err refusal) = []
+
+module _ {A : Type 0} where
+  -- The number of the refusal that the code answers, 0 on acceptance
+  abbrev pub number_told : Result A Refusal → ℕ
+  number_told (Ok a) = 0
+  number_told (Err refusal) = number_of refusal.kind
+
+  -- Its place, 0 on acceptance
+  abbrev pub place_told : Result A Refusal → ℕ
+  place_told (Ok a) = 0
+  place_told (Err refusal) = refusal.place

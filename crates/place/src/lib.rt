@@ -3,57 +3,40 @@
 
 ghost use Rattle.std.specs.Prelude.{◌≡◌, ◌+◌};
 ghost use Rattle.layout.specs.Reading.{refuse};
-ghost use Rattle.place.specs.Place.{between, found_part, part_of, number_in, place_in};
+ghost use Rattle.table.specs.Answers.{number_of};
+ghost use Rattle.place.specs.Place.{between, found_part, part_of, number_in, place_in, bytes_told, number_told, place_told};
 
-use table::Refusal;
+use table::{Refusal, RefusalKind};
 
-// Where a part of the bytes is: from a start on; or nowhere, with a refusal.
-#[derive(Clone, Copy)]
-pub enum PartPlace {
-    Part { start: usize, len: usize },
-    Refused(Refusal),
+// Where a part of the bytes is: from a start on.
+#[derive(Clone, Copy, Debug, PartialEq, Eq)]
+pub struct Part {
+    pub start: usize,
+    pub len: usize,
+}
+
+impl Part {
+    // The bytes from the start on, len of them, or as many as there are.
+    pub fn of<'a>(self, bytes: &'a [u8]) -> &'a [u8]
+        ensures { result.now ≡ between bytes.now self.start (self.start + self.len) }
+    {
+        let rest = &bytes[self.start.min(bytes.len())..];
+        &rest[..self.len.min(rest.len())]
+    }
 }
 
 // A refusal, with place 0.
-pub fn no_part(number: u32) -> PartPlace
-    ensures { found_part result ≡ refuse number 0 }
+pub fn no_part(kind: RefusalKind) -> Result<Part, Refusal>
+    ensures { found_part result ≡ refuse (number_of kind) 0 }
 {
-    PartPlace::Refused(Refusal { number, place: 0 })
+    Err(Refusal::at(kind, 0))
 }
 
-// The part that was found; or an empty part, with the refusal's number and place.
-pub fn part_at<'a>(
-    bytes: &'a [u8],
-    found: PartPlace,
-    number: &mut u32,
-    place: &mut usize,
-) -> &'a [u8]
-    ensures result_value { result.now ≡ part_of bytes.now (found_part found) }
-    ensures number_after { number.new ≡ number_in (found_part found) }
-    ensures place_after { place.new ≡ place_in (found_part found) }
+// The part that was found; or the refusal.
+pub fn part_at<'a>(bytes: &'a [u8], found: Result<Part, Refusal>) -> Result<&'a [u8], Refusal>
+    ensures result_value { bytes_told result ≡ part_of bytes.now (found_part found) }
+    ensures number_after { number_told result ≡ number_in (found_part found) }
+    ensures place_after { place_told result ≡ place_in (found_part found) }
 {
-    *number = 0;
-    *place = 0;
-    match found {
-        PartPlace::Refused(refusal) => {
-            *number = refusal.number;
-            *place = refusal.place;
-            &bytes[..0]
-        }
-        PartPlace::Part { start, len } => part(bytes, start, len),
-    }
-}
-
-// The bytes from a start on, len of them, or as many as there are.
-pub fn part<'a>(bytes: &'a [u8], start: usize, len: usize) -> &'a [u8]
-    ensures { result.now ≡ between bytes.now start (start + len) }
-{
-    if bytes.len() < start {
-        return &bytes[..0];
-    }
-    if bytes.len() - start < len {
-        return &bytes[start..];
-    }
-    let end = start + len;
-    &bytes[start..end]
+    Ok(found?.of(bytes))
 }

@@ -1,17 +1,15 @@
 -- Written lengths, and refusal 16 (docs/FORMAT.md, Writing and Refusals).
-use Rattle.std.specs.Prelude.{ℕ, ◌+◌, cond, List, [], ◌∷◌, leb}
+use Rattle.std.specs.Prelude.{ℕ, ◌+◌, cond, List, [], ◌∷◌, leb, Result, Ok, Err, Some, None}
+use Rattle.std.specs.Prelude as std
 use Rattle.std.proofs.Math.Option.{Option, none, some}
 use Rattle.layout.specs.Answers.{limit}
-use Rattle.table.specs.Answers.{Total, counted, uncounted}
-use Rattle.length.specs.declared.Length.TheVariants.{Counted, Refused}
-use Rattle.length.specs.declared.OptionLen.{OptionLen}
-use Rattle.length.specs.declared.OptionLen.TheVariants.{Some, None}
-use Rattle.length.specs.declared.Length as declared
+use Rattle.table.specs.declared.Refusal.{Refusal}
+use Rattle.table.specs.Answers.{Total, counted, uncounted, number_of}
 
 -- The meaning of each case: the count, or the number and place
-abbrev pub length_of : declared.Length → Total
-length_of (Counted count) = counted count
-length_of (Refused refusal) = uncounted refusal.number refusal.place
+abbrev pub length_of : Result ℕ Refusal → Total
+length_of (Ok count) = counted count
+length_of (Err refusal) = uncounted (number_of refusal.kind) refusal.place
 
 -- 16: the written length is above the limit
 abbrev pub too_long : Total
@@ -25,8 +23,8 @@ within_limit n = cond (leb n limit) (counted n) too_long
 abbrev pub bytes_length : ℕ → ℕ
 bytes_length n = 4 + n
 
--- The code's `OptionLen` as an option
-abbrev pub len_of : OptionLen → Option ℕ
+-- The code's option
+abbrev pub len_of : std.Option ℕ → Option ℕ
 len_of None = none
 len_of (Some n) = some n
 

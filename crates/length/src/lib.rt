@@ -8,34 +8,17 @@ ghost use Rattle.layout.specs.Answers.{limit};
 ghost use Rattle.length.specs.Length.{length_of, too_long, within_limit, bytes_length, len_of, option_length, list_length};
 
 use layout::LIMIT;
-use table::Refusal;
-
-// The refusal of a length above the limit.
-const TOO_LONG: u32 = 16;
-
-// A length in bytes, or a refusal.
-#[derive(Clone, Copy)]
-pub enum Length {
-    Counted { count: usize },
-    Refused(Refusal),
-}
-
-// An optional length.
-#[derive(Clone, Copy)]
-pub enum OptionLen {
-    None,
-    Some(usize),
-}
+use table::{Refusal, RefusalKind};
 
 // The length of some bytes preceded by their length.
-pub fn bytes_len(len: usize) -> Length
+pub fn bytes_len(len: usize) -> Result<usize, Refusal>
     ensures { length_of result ≡ within_limit (bytes_length len) }
 {
     sum_len(4, len)
 }
 
 // The length of a text.
-pub fn str_len(value: &[u8]) -> Length
+pub fn str_len(value: &[u8]) -> Result<usize, Refusal>
     ensures { length_of result ≡ within_limit (length (leaf_bytes (string value.now))) }
 {
     bytes_len(value.len())
@@ -63,48 +46,40 @@ pub fn u32_len() -> usize
 }
 
 // The length of an optional part with its flag.
-pub fn opt_len(inner: OptionLen) -> Length
+pub fn opt_len(inner: Option<usize>) -> Result<usize, Refusal>
     ensures { length_of result ≡ within_limit (option_length (len_of inner)) }
 {
     match inner {
-        OptionLen::None => Length::Counted { count: 1 },
-        OptionLen::Some(len) => sum_len(1, len),
+        None => Ok(1),
+        Some(len) => sum_len(1, len),
     }
 }
 
 // The length of a list, from the lengths of its items.
-pub fn list_len(items: &[usize]) -> Length
+pub fn list_len(items: &[usize]) -> Result<usize, Refusal>
     ensures { length_of result ≡ within_limit (list_length items.now) }
 {
     let mut total = 4;
-    let mut i = 0;
-    while i < items.len() {
-        let item = items[i];
-        if LIMIT - total < item {
-            return too_long();
-        }
-        total += item;
-        i += 1;
+    for item in items {
+        total = sum_len(total, *item)?;
     }
-    Length::Counted { count: total }
+    Ok(total)
 }
 
 // The sum of two lengths.
-fn sum_len(head: usize, len: usize) -> Length
+fn sum_len(head: usize, len: usize) -> Result<usize, Refusal>
     requires { head ≤ limit }
     ensures { length_of result ≡ within_limit (head + len) }
 {
     if LIMIT - head < len {
         return too_long();
     }
-    Length::Counted { count: head + len }
+    Ok(head + len)
 }
 
-fn too_long() -> Length
+// The refusal of a length above the limit.
+fn too_long() -> Result<usize, Refusal>
     ensures { length_of result ≡ too_long }
 {
-    Length::Refused(Refusal {
-        number: TOO_LONG,
-        place: 0,
-    })
+    Err(Refusal::at(RefusalKind::OutputTooLong, 0))
 }

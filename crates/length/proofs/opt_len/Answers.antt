@@ -1,4 +1,4 @@
--- The flag alone, or the flag and what follows it.
+-- The flag alone.
 use native.Mathlib.Omega.{arith}
 use mathlib.Core.Path.{sym}
 use Rattle.length.proofs.Sums.{within_limit_lem}
@@ -6,6 +6,3 @@ use Rattle.length.proofs.opt_len.Goals as goal
 
 pub returns-in-None : goal.returns-in-None
 returns-in-None c = rw c.in-None.is (sym (within_limit_lem 1 (omega arith)))
-
-pub returns-in-Some : goal.returns-in-Some
-returns-in-Some c = rw c.in-Some.is c.sum_len.ensures

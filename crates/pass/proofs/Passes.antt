@@ -2,15 +2,15 @@
 use Prim.Native.Nat.{ℕ, zero, suc, ◌+◌, ◌-◌, ◌≤◌, ◌<◌}
 use native.Mathlib.Omega.{arith}
 use native.Mathlib.Nat.{sub-zero}
-use mathlib.Core.Bool.{Bool, true, false, cond}
+use mathlib.Core.Bool.{true, false}
 use lib.Dec.{ltb}
 use mathlib.Core.List.{◌++◌}
 use mathlib.Core.Path.{◌≡◌, refl, sym, ap, ◌∙◌}
 use Rattle.std.proofs.lemmas.Bool.{false≢true, lt-ltb}
-use Rattle.layout.specs.Layout.{Layout, Fault, Kind, Tag, Flag, Count, unknown_kind, unknown_tag, Verdict, fine, wrong, refusal_of, nothing, one, ◌then◌, check}
+use Rattle.layout.specs.Layout.{Layout, Fault, Kind, Tag, Flag, Count, unknown_kind, unknown_tag, Verdict, fine, wrong, refusal_of, nothing, one, ◌then◌}
 use Rattle.layout.specs.Forms.{times, list, may, Tags, tags, tags_after, kinds, known, follows}
 use Rattle.layout.specs.Entities.{ArgumentSql, DeclaredSql, result_verdict, as_or_numeric}
-use Rattle.layout.specs.Machine.{Machine, pass, drive}
+use Rattle.layout.specs.Machine.{pass, drive}
 use Rattle.layout.proofs.Tables.{Outside, bare}
 use Rattle.layout.proofs.Forms as forms
 use Rattle.pass.specs.Pass.{Meaning, Runs, Halts, Stays, Judges, value_in}
@@ -77,7 +77,7 @@ module _ {P : Type 0} {M : Meaning P} where
   list_in {L} {n} {p} {q} {r} a e b = record {
     lent = b.lent ∙ a.lent;
     state = forms.list_in L (M.machine (M.lent p)) _ _ _ a.state
-      (b.state ∙ handed M (times n L) (M.state q) a.lent ∙ ap (λ (k : ℕ). drive (M.machine (M.lent p)) (times k L) (M.state q)) (e ∙ value_handed M a.lent));
+        (b.state ∙ handed M (times n L) (M.state q) a.lent ∙ ap (λ (k : ℕ). drive (M.machine (M.lent p)) (times k L) (M.state q)) (e ∙ value_handed M a.lent));
   }
 
   pub none_passed : {n : ℕ} {L : Layout} {q : P} → Remains M n 0 L q q
@@ -123,7 +123,7 @@ module _ {P : Type 0} {M : Meaning P} where
   after_in A rows b {p} {q} {u} {r} a m h k f = record {
     lent = f.lent ∙ m.lent ∙ a.lent;
     state = forms.after_in A rows b (M.machine (M.lent p)) _ _ _ _ a.state (m.state ∙ handed M A (M.state q) a.lent) (sym (value_handed M a.lent) ∙ h) k
-      (f.state ∙ handed M (follows rows b) (M.state u) (m.lent ∙ a.lent));
+        (f.state ∙ handed M (follows rows b) (M.state u) (m.lent ∙ a.lent));
   }
 
   pub after_wrong : (A : Layout) (rows : Tags) {number place : ℕ} {p q u r : P} → place ≡ M.place (M.state p) → Runs M (one Tag) p q → Runs M A q u
@@ -131,7 +131,7 @@ module _ {P : Type 0} {M : Meaning P} where
   after_wrong A rows {number} {place} {p} {q} {u} {r} b a m o e h = record {
     lent = h.lent ∙ m.lent ∙ a.lent;
     state = forms.after_wrong A rows (M.machine (M.lent p)) _ _ _ _ a.state (m.state ∙ handed M A (M.state q) a.lent) (outside_handed M rows a.lent o)
-      (halted b (m.lent ∙ a.lent) unknown_tag e h);
+        (halted b (m.lent ∙ a.lent) unknown_tag e h);
   }
 
   -- The result of a declaration: refused as it was read; let in; or refused by what it is

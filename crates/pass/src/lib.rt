@@ -7,7 +7,10 @@ ghost use Rattle.std.specs.Borrow.{MutBor};
 ghost use Rattle.layout.specs.Layout.{Layout, Kind, Tag, Flag, Number, Count, one, text};
 ghost use Rattle.layout.specs.Forms.{may, list};
 ghost use Rattle.layout.specs.Entities.{OptionStr, OptionU32};
+ghost use Rattle.table.specs.Answers.{number_of};
 ghost use Rattle.pass.specs.Pass.{Meaning, Runs, Halts, Stays, Judges, value_in};
+
+use table::RefusalKind;
 
 // A pass that is refused goes no further: what it is then asked to pass over changes nothing.
 pub trait Pass {
@@ -50,8 +53,8 @@ pub trait Pass {
         ensures { result ≡ meaning.seen (meaning.lent self.now) begin index };
 
     // Refuses what began at a place, unless the pass is refused already.
-    fn refuse(&mut self, number: u32, begin: usize)
-        ensures { Halts meaning number begin self.old self.new };
+    fn refuse(&mut self, kind: RefusalKind, begin: usize)
+        ensures { Halts meaning (number_of kind) begin self.old self.new };
 
     // Whether the pass is refused.
     fn is_refused(&self) -> bool

@@ -1,6 +1,4 @@
 -- The count, then the items, up to the last one or to a refusal.
-use native.Mathlib.Omega.{arith}
-use mathlib.Core.Path.{refl}
 use Rattle.pass.proofs.Passes.{list_in, none_passed, one_more, all_passed, refused_passed}
 use Rattle.pass.proofs.list.Goals as goal
 

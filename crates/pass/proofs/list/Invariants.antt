@@ -1,7 +1,7 @@
 -- Some items are passed over; the others are still to come.
 use Rattle.std.specs.Borrow.{MutBor}
 use Rattle.layout.specs.Layout.{Layout}
-use Rattle.pass.specs.Pass.{Meaning, Runs}
+use Rattle.pass.specs.Pass.{Runs}
 use Rattle.pass.proofs.Passes.{Remains}
 use Rattle.pass.proofs.list.Given as goal
 

@@ -1,5 +1,4 @@
 -- The flag, then the part if it is set.
-use native.Mathlib.Omega.{arith}
 use mathlib.Core.Path.{sym, ◌∙◌}
 use Rattle.pass.proofs.Passes.{may_in, may_out, is_set, not_set}
 use Rattle.pass.proofs.option.Goals as goal

@@ -1,14 +1,15 @@
--- The digits of a number: steps, lengths, and the digits counted from the last one.
-use Prim.Native.Nat.{ℕ, zero, suc, ◌+◌, ◌-◌, ◌*◌, ◌/◌, ◌%◌, ◌^◌, ◌≤◌, ◌<◌}
-use native.Mathlib.Nat.{sub-zero, zero-sub, pow-suc, div-lt_iff_lt-mul}
+-- The digits of a number: steps, lengths, and texts that they are added to.
+use Prim.Native.Nat.{ℕ, zero, suc, ◌+◌, ◌*◌, ◌/◌, ◌%◌, ◌^◌, ◌≤◌, ◌<◌}
+use native.Mathlib.Nat.{div-lt_iff_lt-mul, pow-suc}
 use native.Mathlib.Omega.{arith}
 use mathlib.Core.Bool.{Bool, true, false, cond}
 use mathlib.Core.List.{List, [], ◌∷◌, ◌++◌, append_assoc}
-use mathlib.Core.Path.{◌≡◌, refl, sym, ap, ◌∙◌}
+use mathlib.Core.Path.{◌≡◌, refl, ap, ◌∙◌}
 use lib.Dec.{ltb}
-use lib.ListN.{length, take, drop, set, replicate, length-append, length-set}
-use lib.Seq.{take-append_seam, drop-cons, get_or-set_same, drop-set-lt}
+use lib.ListN.{length, take, length-append}
 use borrow.Author.Tests.{ltb-true, ltb-false, lt-ltb, le-ltb}
+use Rattle.std.proofs.lemmas.List.{take_all}
+use Rattle.fixed_text.proofs.Extended.{added_again}
 use Rattle.decimal.specs.Decimal.{digit, digits_in, decimal}
 use Rattle.decimal.specs.Theorems.{DecimalStep, DecimalSome, DecimalMost}
 
@@ -73,61 +74,18 @@ most_64 n h = decimal_most 20 n (omega arith) (omega arith)
 pub most_32 : (n : ℕ) → n < 2 ^ 32 → length (decimal n) ≤ 10
 most_32 n h = decimal_most 10 n (omega arith) (omega arith)
 
-pub length_below_ten : (n : ℕ) → n < 10 → length (decimal n) ≡ 1
-length_below_ten n h = ap length (below_ten n h)
+-- The digits of a number added to a text: those of its tenth, then the last one
+pub front_added : (k n : ℕ) (text front : List ℕ) → 10 ≤ n → front ≡ take k (text ++ decimal (n / 10))
+    → take k (front ++ (digit (n % 10) ∷ [])) ≡ take k (text ++ decimal n)
+front_added k n text front h e =
+    rw (e, from_ten n h) (added_again k (text ++ decimal (n / 10)) (digit (n % 10) ∷ []) ∙ rw append_assoc)
 
--- The last k digits of n
-abbrev pub last_digits : (k n : ℕ) → List ℕ
-last_digits zero n = []
-last_digits (suc k) n = last_digits k (n / 10) ++ (digit (n % 10) ∷ [])
+-- The only digit of a number below ten
+pub digit_added : (k n : ℕ) (text : List ℕ) → n < 10 → take k (text ++ (digit (n % 10) ∷ [])) ≡ take k (text ++ decimal n)
+digit_added k n text h =
+    let r : n % 10 ≡ n = omega arith in
+    rw (r, below_ten n h)
 
--- All digits are the last ones, if all are counted
-pub all_last : (n : ℕ) → last_digits (length (decimal n)) n ≡ decimal n
-all_last n = go (suc n) n (omega arith)
-  where
-    go : (k m : ℕ) → m < k → last_digits (length (decimal m)) m ≡ decimal m
-    go zero m h = absurd (omega arith)
-    go (suc k) m h = at (ltb m 10) refl (λ t. go k (m / 10) (omega arith))
-      where
-        at : (x : Bool) → ltb m 10 ≡ x → (10 ≤ m → last_digits (length (decimal (m / 10))) (m / 10) ≡ decimal (m / 10))
-            → last_digits (length (decimal m)) m ≡ decimal m
-        at true e i =
-            let t : m < 10 = ltb-true m 10 e in
-            let r : m % 10 ≡ m = omega arith in
-            rw (length_below_ten m t, below_ten m t, r)
-        at false e i =
-            let t : 10 ≤ m = ltb-false m 10 e in
-            let l : length (decimal m) ≡ suc (length (decimal (m / 10))) = omega (arith, length_from_ten m t) in
-            rw (l, i t) (sym (from_ten m t))
-
--- Digits are written from the last one on: those left to write, then those written
-drop_replicate : (k m a : ℕ) → drop k (replicate m a) ≡ replicate (m - k) a
-drop_replicate zero m a = rw sub-zero
-drop_replicate (suc k) zero a = rw zero-sub
-drop_replicate (suc k) (suc m) a =
-    let e : suc m - suc k ≡ m - k = omega arith in
-    rw e (drop_replicate k m a)
-
-pub none_written : (n : ℕ) → last_digits (length (decimal n)) n ++ drop (length (decimal n)) (replicate 20 0) ≡ decimal n ++ replicate (20 - length (decimal n)) 0
-none_written n = rw (all_last n, drop_replicate (length (decimal n)) 20 0)
-
-pub one_written : (i rest : ℕ) (bytes : List ℕ) → 0 < i → i ≤ length bytes
-    → last_digits (i - 1) (rest / 10) ++ drop (i - 1) (set bytes (i - 1) (digit (rest % 10))) ≡ last_digits i rest ++ drop i bytes
-one_written zero rest bytes h l = absurd (omega arith)
-one_written (suc i) rest bytes h l =
-    let d = digit (rest % 10) in
-    let a : suc i - 1 ≡ i = omega arith in
-    let e : drop i (set bytes i d) ≡ d ∷ drop (suc i) bytes = rw (drop-cons (set bytes i d) i 0 (omega (arith, length-set bytes i d)), get_or-set_same bytes i d 0 (omega arith), drop-set-lt (suc i) bytes i d (omega arith)) in
-    rw (a, e) (sym (append_assoc (last_digits i (rest / 10)) (d ∷ []) (drop (suc i) bytes)))
-
-pub all_written : (i rest : ℕ) (bytes out : List ℕ) → i ≡ 0 → last_digits i rest ++ drop i bytes ≡ out → bytes ≡ out
-all_written zero rest bytes out h e = e
-all_written (suc i) rest bytes out h e = absurd (omega arith)
-
--- The first bytes of an answer are the digits
-pub digits_taken : (n k : ℕ) (bytes : List ℕ) → bytes ≡ decimal n ++ replicate (20 - length (decimal n)) 0 → k ≡ length (decimal n) → take k bytes ≡ decimal n
-digits_taken n k bytes e l = rw (e, l) (take-append_seam (decimal n) (replicate (20 - length (decimal n)) 0))
-
--- And they lie within its bytes
-pub digits_fit : (n k : ℕ) (bytes : List ℕ) → bytes ≡ decimal n ++ replicate (20 - length (decimal n)) 0 → k ≡ length (decimal n) → k ≤ length bytes
-digits_fit n k bytes e l = rw (e, l) (simp length-append (omega arith))
+-- A text has room for the digits of a number of 64 bits
+pub all_added : (n : ℕ) → n < 2 ^ 64 → take 20 (decimal n) ≡ decimal n
+all_added n h = take_all 20 (decimal n) (most_64 n h)

@@ -1,38 +1,33 @@
--- No precision, no scale, or both: each text is stored after those before it.
-use native.Mathlib.Omega.{arith}
-use mathlib.Core.Path.{◌∙◌}
-use Rattle.numeric.proofs.Numeric.{held_first, held, record_held}
-use Rattle.decimal.specs.Decimal.{decimal}
+-- No precision, no scale, or both: each text is added to those before it.
+use Rattle.std.proofs.Common.{◌∙◌, arith, ◌++◌}
+use Rattle.std.proofs.lemmas.List.{length-take}
 use Rattle.decimal.specs.Ascii.{ascii}
+use Rattle.decimal.specs.Decimal.{decimal}
+use Rattle.fixed_text.proofs.Extended.{added_after}
+use Rattle.numeric.specs.Numeric.{numeric_size}
+use Rattle.numeric.proofs.Numeric.{precision_fits, both_fit}
 use Rattle.numeric.proofs.numeric_sql_string.Goals as goal
-
-pub returns-in_default : goal.returns-in_default
-returns-in_default c =
-    let a = held_first (ascii "NUMERIC") (omega arith) c.put-len.ensures in
-    record { value = record_held a ∙ rw c.in_default.is; len_le_numeric_size = omega arith }
-
-pub returns-in_default-scale : goal.returns-in_default-scale
-returns-in_default-scale c =
-    let put-ensures = c.put-len.ensures in
-    let put2-ensures = c.put-len-2.ensures in
-    let a = held_first (ascii "NUMERIC") (omega arith) put-ensures in
-    let b = held (ascii "(") a (omega arith) put2-ensures in
-    let p = c.put_decimal-len.ensures in
-    let d = held (decimal _) b (omega arith) (p.0, p.1) in
-    let e = held (ascii ")") d (omega arith) c.put-len-in_default-scale.ensures in
-    record { value = record_held e ∙ rw (c.in_default-scale.is, c.in-Some.is); len_le_numeric_size = omega arith }
+use Rattle.numeric.proofs.numeric_sql_string.Goals.{in-Some-scale, in_default-scale}
 
 pub returns : goal.returns
 returns c =
-    let put-ensures = c.put-len.ensures in
-    let put2-ensures = c.put-len-2.ensures in
-    let put4-ensures = c.put-len-3.ensures in
-    let a = held_first (ascii "NUMERIC") (omega arith) put-ensures in
-    let b = held (ascii "(") a (omega arith) put2-ensures in
-    let p = c.put_decimal-len.ensures in
-    let d = held (decimal _) b (omega arith) (p.0, p.1) in
-    let e = held (ascii ", ") d (omega arith) put4-ensures in
-    let q = c.put_decimal-len-2.ensures in
-    let f = held (decimal _) e (omega arith) (q.0, q.1) in
-    let g = held (ascii ")") f (omega arith) c.put-len-4.ensures in
-    record { value = record_held g ∙ rw (c.in-Some-scale.is, c.in-Some.is); len_le_numeric_size = omega arith }
+    let p = c.in-Some.precision in
+    let a = c.extend_from_slice.ensures ∙ rw c.new-text.ensures in
+    let b = added_after numeric_size (ascii "NUMERIC") (ascii "(") a c.extend_from_slice-2.ensures in
+    let d = added_after numeric_size (ascii "NUMERIC(") (decimal p) b (rw c.from.ensures at c.push_decimal.ensures) in
+    record {
+      value = elim c.match-scale.branch [
+        | in-Some-scale w ↦
+            let q = w.in-Some-scale.scale in
+            let e = added_after numeric_size (ascii "NUMERIC(" ++ decimal p) (ascii ", ") d w.extend_from_slice-in-Some-scale.ensures in
+            let f = added_after numeric_size (ascii "NUMERIC(" ++ decimal p ++ ascii ", ") (decimal q) e (rw w.from-in-Some-scale.ensures at w.push_decimal-in-Some-scale.ensures) in
+            added_after numeric_size (ascii "NUMERIC(" ++ decimal p ++ ascii ", " ++ decimal q) (ascii ")") f (rw w.text-is at c.extend_from_slice-3.ensures)
+            ∙ both_fit p q (omega arith) (omega arith)
+            ∙ rw (c.in-Some.is, w.in-Some-scale.is)
+        | in_default-scale w ↦
+            added_after numeric_size (ascii "NUMERIC(" ++ decimal p) (ascii ")") d (rw w.text-is at c.extend_from_slice-3.ensures)
+            ∙ precision_fits p (omega arith)
+            ∙ rw (c.in-Some.is, w.in_default-scale.is)
+      ];
+      len_le_numeric_size = rw c.extend_from_slice-3.ensures (simp length-take (omega arith));
+    }

@@ -1,2 +1,1 @@
 pub mod Pasted
-pub mod Private

@@ -11,7 +11,7 @@ use Rattle.layout.specs.Layout.{Layout, Fault, Kind, Tag, Flag, Count, unknown_k
 use Rattle.layout.specs.Forms.{times, list, may, Tags, tags, tags_after, kinds, known, follows}
 use Rattle.layout.specs.Entities.{ArgumentSql, DeclaredSql, result_verdict, as_or_numeric}
 use Rattle.layout.specs.Machine.{pass, drive}
-use Rattle.layout.proofs.Tables.{Outside, bare}
+use Rattle.layout.proofs.Tables.{Outside, bare, of_two}
 use Rattle.layout.proofs.Forms as forms
 use Rattle.pass.specs.Pass.{Meaning, Runs, Halts, Stays, Judges, value_in}
 
@@ -22,9 +22,6 @@ module _ {P : Type 0} (M : Meaning P) where
 
   value_handed : {p q : P} → M.lent q ≡ M.lent p → value_in M q ≡ (M.machine (M.lent p)).value (M.state q)
   value_handed {p} {q} e = ap (λ (x : M.Lent). (M.machine x).value (M.state q)) e
-
-  outside_handed : (rows : Tags) {p q : P} → M.lent q ≡ M.lent p → Outside rows (value_in M q) → Outside rows ((M.machine (M.lent p)).value (M.state q))
-  outside_handed rows {p} {q} e o = rw (value_handed e) at o
 
   -- Of n items from q on, i are passed over at r; the others are still to come
   pub record Remains (n i : ℕ) (L : Layout) (q r : P) : Type 0 where
@@ -58,20 +55,6 @@ module _ {P : Type 0} {M : Meaning P} where
   pub may_out : {L : Layout} {p q : P} → Runs M (one Flag) p q → value_in M q ≡ 0 → Runs M (may L) p q
   may_out {L} {p} {q} a h = record { lent = a.lent; state = forms.may_out L (M.machine (M.lent p)) _ _ a.state (sym (value_handed M a.lent) ∙ h) }
 
-  -- A known tag b, then what follows it. `refl` proves that a numeral is known
-  pub tags_in : (rows : Tags) (b : ℕ) {p q r : P} → Runs M (one Tag) p q → value_in M q ≡ b → known unknown_tag rows b ≡ fine → Runs M (follows rows b) q r → Runs M (tags rows) p r
-  tags_in rows b {p} {q} {r} a h k f = record {
-    lent = f.lent ∙ a.lent;
-    state = forms.tags_in rows b (M.machine (M.lent p)) _ _ _ a.state (sym (value_handed M a.lent) ∙ h) k (f.state ∙ handed M (follows rows b) (M.state q) a.lent);
-  }
-
-  -- Known tags from a on, n of them, with nothing after them
-  pub tags_bare : (a n : ℕ) (rows : Tags) {p q : P} → Runs M (one Tag) p q → a ≤ value_in M q → value_in M q < a + n → Runs M (tags (bare a n ++ rows)) p q
-  tags_bare a n rows {p} {q} e h k = record {
-    lent = e.lent;
-    state = forms.tags_bare a n rows (M.machine (M.lent p)) _ _ e.state (rw (value_handed M e.lent) at h) (rw (value_handed M e.lent) at k);
-  }
-
   -- A list: a count, then that many items
   pub list_in : {L : Layout} {n : ℕ} {p q r : P} → Runs M (one Count) p q → n ≡ value_in M q → Runs M (times n L) q r → Runs M (list L) p r
   list_in {L} {n} {p} {q} {r} a e b = record {
@@ -96,43 +79,77 @@ module _ {P : Type 0} {M : Meaning P} where
   pub refused_passed : {n i : ℕ} {L : Layout} {q r : P} → Stays M → Remains M n i L q r → M.refused (M.state r) → Runs M (times n L) q r
   refused_passed {n} {i} {L} {q} {r} s m h = record { lent = m.lent; state = sym (m.state ∙ s.over (M.lent q) (times (n - i) L) (M.state r) h) }
 
-  -- An unknown tag, refused for the place where it began
-  pub tags_wrong : (rows : Tags) {number place : ℕ} {p q r : P} → place ≡ M.place (M.state p) → Runs M (one Tag) p q → Outside rows (value_in M q)
-      → refusal_of unknown_tag ≡ number → Halts M number place q r → Runs M (tags rows) p r
-  tags_wrong rows {number} {place} {p} {q} {r} b a o e h = record {
-    lent = h.lent ∙ a.lent;
-    state = forms.tags_wrong rows (M.machine (M.lent p)) _ _ _ a.state (outside_handed M rows a.lent o) (halted b a.lent unknown_tag e h);
+  -- A tag n, and what comes of it by a table
+  module _ (rows : Tags) {n : ℕ} {p q : P} (a : Runs M (one Tag) p q) (v : n ≡ value_in M q) where
+    there : (M.machine (M.lent p)).value (M.state q) ≡ n
+    there = sym (v ∙ value_handed M a.lent)
+
+    -- A known tag b, then what follows it. `refl` proves that a numeral is known
+    pub tags_in : (b : ℕ) {r : P} → n ≡ b → known unknown_tag rows b ≡ fine → Runs M (follows rows b) q r → Runs M (tags rows) p r
+    tags_in b {r} h k f = record {
+      lent = f.lent ∙ a.lent;
+      state = forms.tags_in rows b (M.machine (M.lent p)) _ _ _ a.state (there ∙ h) k (f.state ∙ handed M (follows rows b) (M.state q) a.lent);
+    }
+
+    -- One of two neighbours, with the same part after both
+    pub tags_of_two : (b : ℕ) {r : P} → b ≤ n → n < b + 2 → known unknown_tag rows b ≡ fine → known unknown_tag rows (b + 1) ≡ fine
+        → Runs M (follows rows b) q r → Runs M (follows rows (b + 1)) q r → Runs M (tags rows) p r
+    tags_of_two b l h k₁ k₂ f₁ f₂ = of_two b n l h (λ e. tags_in b e k₁ f₁) (λ e. tags_in (b + 1) e k₂ f₂)
+
+    -- An unknown tag, refused for the place where it began
+    pub tags_wrong : {number place : ℕ} {r : P} → place ≡ M.place (M.state p) → Outside rows n → refusal_of unknown_tag ≡ number → Halts M number place q r
+        → Runs M (tags rows) p r
+    tags_wrong {number} {place} {r} b o e h = record {
+      lent = h.lent ∙ a.lent;
+      state = forms.tags_wrong rows (M.machine (M.lent p)) _ _ _ a.state (rw (sym there) at o) (halted b a.lent unknown_tag e h);
+    }
+
+    -- A tag that is judged only after A
+    module _ (A : Layout) {u : P} (m : Runs M A q u) where
+      pub after_in : (b : ℕ) {r : P} → n ≡ b → known unknown_tag rows b ≡ fine → Runs M (follows rows b) u r → Runs M (tags_after A rows) p r
+      after_in b {r} h k f = record {
+        lent = f.lent ∙ m.lent ∙ a.lent;
+        state = forms.after_in A rows b (M.machine (M.lent p)) _ _ _ _ a.state (m.state ∙ handed M A (M.state q) a.lent) (there ∙ h) k
+          (f.state ∙ handed M (follows rows b) (M.state u) (m.lent ∙ a.lent));
+      }
+
+      pub after_of_two : (b : ℕ) {r : P} → b ≤ n → n < b + 2 → known unknown_tag rows b ≡ fine → known unknown_tag rows (b + 1) ≡ fine
+          → Runs M (follows rows b) u r → Runs M (follows rows (b + 1)) u r → Runs M (tags_after A rows) p r
+      after_of_two b l h k₁ k₂ f₁ f₂ = of_two b n l h (λ e. after_in b e k₁ f₁) (λ e. after_in (b + 1) e k₂ f₂)
+
+      pub after_wrong : {number place : ℕ} {r : P} → place ≡ M.place (M.state p) → Outside rows n → refusal_of unknown_tag ≡ number → Halts M number place u r
+          → Runs M (tags_after A rows) p r
+      after_wrong {number} {place} {r} b o e h = record {
+        lent = h.lent ∙ m.lent ∙ a.lent;
+        state = forms.after_wrong A rows (M.machine (M.lent p)) _ _ _ _ a.state (m.state ∙ handed M A (M.state q) a.lent) (rw (sym there) at o)
+          (halted b (m.lent ∙ a.lent) unknown_tag e h);
+      }
+
+  -- Of n known tags from b on with nothing after them, any
+  pub tags_bare : (b k : ℕ) (rows : Tags) {n : ℕ} {p q : P} → Runs M (one Tag) p q → n ≡ value_in M q → b ≤ n → n < b + k → Runs M (tags (bare b k ++ rows)) p q
+  tags_bare b k rows {n} {p} {q} a v l h = record {
+    lent = a.lent;
+    state = forms.tags_bare b k rows (M.machine (M.lent p)) _ _ a.state (rw (v ∙ value_handed M a.lent) at l) (rw (v ∙ value_handed M a.lent) at h);
   }
 
-  pub kinds_in : (rows : Tags) (b : ℕ) {p q r : P} → Runs M (one Kind) p q → value_in M q ≡ b → known unknown_kind rows b ≡ fine → Runs M (follows rows b) q r → Runs M (kinds rows) p r
-  kinds_in rows b {p} {q} {r} a h k f = record {
-    lent = f.lent ∙ a.lent;
-    state = forms.kinds_in rows b (M.machine (M.lent p)) _ _ _ a.state (sym (value_handed M a.lent) ∙ h) k (f.state ∙ handed M (follows rows b) (M.state q) a.lent);
-  }
+  -- The kind of an entity
+  module _ (rows : Tags) {n : ℕ} {p q : P} (a : Runs M (one Kind) p q) (v : n ≡ value_in M q) where
+    pub kinds_in : (b : ℕ) {r : P} → n ≡ b → known unknown_kind rows b ≡ fine → Runs M (follows rows b) q r → Runs M (kinds rows) p r
+    kinds_in b {r} h k f = record {
+      lent = f.lent ∙ a.lent;
+      state = forms.kinds_in rows b (M.machine (M.lent p)) _ _ _ a.state (sym (v ∙ value_handed M a.lent) ∙ h) k (f.state ∙ handed M (follows rows b) (M.state q) a.lent);
+    }
 
-  pub kinds_wrong : (rows : Tags) {number place : ℕ} {p q r : P} → place ≡ M.place (M.state p) → Runs M (one Kind) p q → Outside rows (value_in M q)
-      → refusal_of unknown_kind ≡ number → Halts M number place q r → Runs M (kinds rows) p r
-  kinds_wrong rows {number} {place} {p} {q} {r} b a o e h = record {
-    lent = h.lent ∙ a.lent;
-    state = forms.kinds_wrong rows (M.machine (M.lent p)) _ _ _ a.state (outside_handed M rows a.lent o) (halted b a.lent unknown_kind e h);
-  }
+    pub kinds_of_two : (b : ℕ) {r : P} → b ≤ n → n < b + 2 → known unknown_kind rows b ≡ fine → known unknown_kind rows (b + 1) ≡ fine
+        → Runs M (follows rows b) q r → Runs M (follows rows (b + 1)) q r → Runs M (kinds rows) p r
+    kinds_of_two b l h k₁ k₂ f₁ f₂ = of_two b n l h (λ e. kinds_in b e k₁ f₁) (λ e. kinds_in (b + 1) e k₂ f₂)
 
-  -- A tag that is judged only after A
-  pub after_in : (A : Layout) (rows : Tags) (b : ℕ) {p q u r : P} → Runs M (one Tag) p q → Runs M A q u → value_in M q ≡ b → known unknown_tag rows b ≡ fine
-      → Runs M (follows rows b) u r → Runs M (tags_after A rows) p r
-  after_in A rows b {p} {q} {u} {r} a m h k f = record {
-    lent = f.lent ∙ m.lent ∙ a.lent;
-    state = forms.after_in A rows b (M.machine (M.lent p)) _ _ _ _ a.state (m.state ∙ handed M A (M.state q) a.lent) (sym (value_handed M a.lent) ∙ h) k
-        (f.state ∙ handed M (follows rows b) (M.state u) (m.lent ∙ a.lent));
-  }
-
-  pub after_wrong : (A : Layout) (rows : Tags) {number place : ℕ} {p q u r : P} → place ≡ M.place (M.state p) → Runs M (one Tag) p q → Runs M A q u
-      → Outside rows (value_in M q) → refusal_of unknown_tag ≡ number → Halts M number place u r → Runs M (tags_after A rows) p r
-  after_wrong A rows {number} {place} {p} {q} {u} {r} b a m o e h = record {
-    lent = h.lent ∙ m.lent ∙ a.lent;
-    state = forms.after_wrong A rows (M.machine (M.lent p)) _ _ _ _ a.state (m.state ∙ handed M A (M.state q) a.lent) (outside_handed M rows a.lent o)
-        (halted b (m.lent ∙ a.lent) unknown_tag e h);
-  }
+    pub kinds_wrong : {number place : ℕ} {r : P} → place ≡ M.place (M.state p) → Outside rows n → refusal_of unknown_kind ≡ number → Halts M number place q r
+        → Runs M (kinds rows) p r
+    kinds_wrong {number} {place} {r} b o e h = record {
+      lent = h.lent ∙ a.lent;
+      state = forms.kinds_wrong rows (M.machine (M.lent p)) _ _ _ a.state (rw (v ∙ value_handed M a.lent) at o) (halted b a.lent unknown_kind e h);
+    }
 
   -- The result of a declaration: refused as it was read; let in; or refused by what it is
   module _ {p q : P} (a : Runs M ArgumentSql p q) where

@@ -20,8 +20,8 @@ use Rattle.layout.proofs.BadReads.{not_true}
 use Rattle.raw_bytes.specs.Bytes.{number_or0, same}
 use Rattle.raw_bytes.proofs.Compared.{same_sound}
 use Rattle.table.specs.declared.Refusal.{Refusal}
-use Rattle.leaf.specs.State.{ReadState, read_state, new_cursor, finished_at}
-use Rattle.leaf.specs.Run.{run}
+use Rattle.reading.specs.State.{ReadState, read_state, new_cursor, finished_at}
+use Rattle.reading.specs.Run.{run}
 use Rattle.leaf.specs.declared.Cursor.{Cursor}
 use Rattle.framing.specs.Entries.{sentinel_bytes}
 use Rattle.framing.specs.Framing.{framing_from}

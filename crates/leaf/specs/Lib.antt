@@ -1,5 +1,2 @@
-pub mod State
-pub mod Run
-pub mod Answered
-pub mod Theorems
+pub mod Reader
 pub mod Private

@@ -1,285 +1,257 @@
-// The leaves: a cursor over a payload that reads a flag, a number, a tag, a count or a text, and stores its row.
+// The leaves: a reader of a payload that reads a flag, a number, a tag, a count or a text, and stores its row.
 #![tactic(auto)]
 
-ghost use Rattle.std.specs.Prelude.{[], ◌∷◌, ◌≡◌};
-ghost use Rattle.layout.specs.Layout.{Kind, Tag, Flag, Number, Count, one, text};
-ghost use Rattle.layout.specs.Entities.{OptionStr, OptionU32};
+ghost use Rattle.std.specs.Prelude.{[], ◌∷◌, ◌≡◌, true};
 ghost use Rattle.layout.specs.Reading.{byte_at, four_at};
-ghost use Rattle.table.specs.Answers.{result_of};
-ghost use Rattle.leaf.specs.State.{read_state, new_cursor, seek, stopped, refused_once, finished_at, put, guarded};
-ghost use Rattle.leaf.specs.Run.{run};
-ghost use Rattle.leaf.specs.Answered.{answered, answered_alone};
-ghost use Rattle.leaf.specs.Private.{put_number};
+ghost use Rattle.table.specs.Answers.{number_of, result_of};
+ghost use Rattle.reading.specs.State.{read_state, new_cursor, seek, refused_once, finished_at, stop, put, guarded};
+ghost use Rattle.leaf.specs.Reader.{cursor_of, state_of, lent_of, reader_meaning};
+ghost use Rattle.reading.specs.Answered.{answered, answered_alone};
+ghost use Rattle.leaf.specs.Private.{put_number, Left};
+ghost use Rattle.layout.specs.Layout.{refusal_of};
+ghost use Rattle.layout.proofs.Forms.{drive_still};
+ghost use Rattle.reading.specs.Run.{reader};
+ghost use Rattle.reading.proofs.Still.{Refused, reader_still, halt_refused};
+ghost use Rattle.reading.proofs.Result.{reader_judges};
 
 use layout::{LIMIT, ROW_WIDTH};
-use table::Answer;
+use pass::Pass;
+use table::{Counts, Refusal, RefusalKind};
 
-// The state of a reading: `at`, the next byte, or the place of the refusal; `rows`, the rows stored so far, or one more than
-// the table has once a row did not fit; `refusal`, 0 or the number of the refusal; `value`, the value of the last leaf read. A
-// refused cursor reads nothing more.
-#[derive(Clone, Copy)]
-pub struct Cursor {
+// The state of a reading: the bytes; the table that it fills; `at`, the next byte, or the place of the refusal; `rows`, the rows
+// stored so far, or one more than the table has once a row did not fit; `value`, the value of the last leaf read; and what it is
+// refused for. A refused reader reads nothing more.
+#[derive(Drop)]
+pub struct Reader<'a> {
+    pub s: &'a [u8],
+    pub t: &'a mut [u32],
     pub at: usize,
     pub rows: usize,
-    pub refusal: u32,
     pub value: u32,
+    pub refusal: Option<RefusalKind>,
 }
 
-impl Cursor {
-    // A cursor at the first byte.
-    pub fn new() -> Cursor
-        ensures { result ≡ new_cursor }
+impl<'a> Reader<'a> {
+    // A reader at the first byte.
+    pub fn new(s: &'a [u8], t: &'a mut [u32]) -> Reader<'a>
+        ensures bytes { result.s.now ≡ s.now }
+        ensures lent { result.t.ghost_name ≡ t.entry.ghost_name }
+        ensures state { state_of result ≡ read_state new_cursor t.old }
     {
-        Cursor {
+        Reader {
+            s,
+            t,
             at: 0,
             rows: 0,
-            refusal: 0,
             value: 0,
+            refusal: None,
         }
     }
 
-    // The cursor at another place. For one that is refused, the place is that of its refusal.
-    pub fn seek(self, at: usize) -> Cursor
-        ensures { result ≡ seek at self }
+    // The reader goes to another place. For one that is refused, the place is that of its refusal.
+    pub fn seek(&mut self, at: usize)
+        ensures lent { lent_of self.new ≡ lent_of self.old }
+        ensures state { state_of self.new ≡ read_state (seek at (cursor_of self.old)) self.old.t.now }
     {
-        Cursor {
-            at,
-            rows: self.rows,
-            refusal: self.refusal,
-            value: self.value,
-        }
+        self.at = at;
     }
 
-    // The same cursor, field by field: a caller that passes the copy on keeps its own in registers.
-    pub fn copy(self) -> Cursor
-        ensures { result ≡ self }
+    // The reader is refused: its position is the place of the refusal.
+    fn stop(&mut self, kind: RefusalKind, place: usize)
+        ensures lent { lent_of self.new ≡ lent_of self.old }
+        ensures state { state_of self.new ≡ stop (number_of kind) place (state_of self.old) }
     {
-        Cursor {
-            at: self.at,
-            rows: self.rows,
-            refusal: self.refusal,
-            value: self.value,
-        }
-    }
-
-    // The cursor, refused: its position is the place of the refusal.
-    fn stop(self, number: u32, place: usize) -> Cursor
-        ensures { result ≡ stopped number place self }
-    {
-        Cursor {
-            at: place,
-            rows: self.rows,
-            refusal: number,
-            value: self.value,
-        }
+        self.refusal = Some(kind);
+        self.at = place;
     }
 
     // The same, unless it is refused already.
-    pub fn refused(self, number: u32, place: usize) -> Cursor
-        ensures { result ≡ refused_once number place self }
+    pub fn refused(&mut self, kind: RefusalKind, place: usize)
+        ensures lent { lent_of self.new ≡ lent_of self.old }
+        ensures state { state_of self.new ≡ read_state (refused_once (number_of kind) place (cursor_of self.old)) self.old.t.now }
     {
-        if self.refusal != 0 {
-            return self;
+        if self.refusal.is_none() {
+            self.stop(kind, place);
         }
-        self.stop(number, place)
     }
 
-    // The cursor after a leaf, whose row is stored if the table has room for it. Rows are counted up to one more than the table
-    // has.
-    fn store(self, t: &mut [u32], sort: u32, offset: u32, value: u32, next: usize) -> Cursor
-        ensures { read_state result t.new ≡ put (sort ∷ offset ∷ value ∷ []) value next (read_state self t.old) }
+    // Whether the reading goes on, with that many bytes left. If not, the reader is refused: too many bytes, or too few left.
+    fn left(&mut self, n: usize) -> bool
+        ensures { Left result n self.old self.new }
     {
-        let whole = t.len() / ROW_WIDTH;
+        if self.refusal.is_some() {
+            return false;
+        }
+        if LIMIT < self.s.len() {
+            self.stop(RefusalKind::InputTooLong, 0);
+            return false;
+        }
+        if self.s.len() < self.at || self.s.len() - self.at < n {
+            self.stop(RefusalKind::Truncated, self.at);
+            return false;
+        }
+        true
+    }
+
+    // A leaf was read: its row is stored if the table has room for it. Rows are counted up to one more than the table has.
+    fn store(&mut self, sort: u32, offset: u32, value: u32, next: usize)
+        ensures lent { lent_of self.new ≡ lent_of self.old }
+        ensures state { state_of self.new ≡ put (sort ∷ offset ∷ value ∷ []) value next (state_of self.old) }
+    {
+        let whole = self.t.len() / ROW_WIDTH;
         let mut rows = whole;
         if self.rows < whole {
             rows = self.rows;
             let i = ROW_WIDTH * rows;
             let j = i + 1;
             let k = j + 1;
-            t[i] = sort;
-            t[j] = offset;
-            t[k] = value;
+            self.t[i] = sort;
+            self.t[j] = offset;
+            self.t[k] = value;
         }
-        Cursor {
-            at: next,
-            rows: rows + 1,
-            refusal: self.refusal,
-            value,
-        }
+        self.at = next;
+        self.rows = rows + 1;
+        self.value = value;
     }
 
     // A byte, as a leaf of a sort.
-    fn byte(self, s: &[u8], t: &mut [u32], sort: u32) -> Cursor
-        ensures { read_state result t.new ≡ guarded s.now (put_number sort (byte_at s.now self.at) (read_state self t.old)) (read_state self t.old) }
+    fn byte(&mut self, sort: u32)
+        ensures lent { lent_of self.new ≡ lent_of self.old }
+        ensures state { state_of self.new ≡ guarded self.old.s.now (put_number sort (byte_at self.old.s.now self.old.at) (state_of self.old)) (state_of self.old) }
     {
-        if self.refusal != 0 {
-            return self;
+        if self.left(1) {
+            let at = self.at;
+            let b = raw_bytes::wide(self.s[at]);
+            self.store(sort, at as u32, b, at + 1);
         }
-        if LIMIT < s.len() {
-            return self.stop(1, 0);
-        }
-        let at = self.at;
-        if s.len() <= at {
-            return self.stop(5, at);
-        }
-        let b = raw_bytes::wide(s[at]);
-        self.store(t, sort, at as u32, b, at + 1)
     }
 
     // Four bytes, as a leaf of a sort.
-    fn four(self, s: &[u8], t: &mut [u32], sort: u32) -> Cursor
-        ensures { read_state result t.new ≡ guarded s.now (put_number sort (four_at s.now self.at) (read_state self t.old)) (read_state self t.old) }
+    fn four(&mut self, sort: u32)
+        ensures lent { lent_of self.new ≡ lent_of self.old }
+        ensures state { state_of self.new ≡ guarded self.old.s.now (put_number sort (four_at self.old.s.now self.old.at) (state_of self.old)) (state_of self.old) }
     {
-        if self.refusal != 0 {
-            return self;
+        if self.left(4) {
+            let at = self.at;
+            let n = raw_bytes::number_at(self.s, at);
+            self.store(sort, at as u32, n, at + 4);
         }
-        if LIMIT < s.len() {
-            return self.stop(1, 0);
-        }
-        let at = self.at;
-        if s.len() < at {
-            return self.stop(5, at);
-        }
-        if s.len() - at < 4 {
-            return self.stop(5, at);
-        }
-        self.store(t, sort, at as u32, raw_bytes::number_at(s, at), at + 4)
     }
 
-    // The kind of an entity.
-    pub fn read_kind(self, s: &[u8], t: &mut [u32]) -> Cursor
-        ensures { read_state result t.new ≡ run (one Kind) s.now (read_state self t.old) }
-    {
-        self.byte(s, t, layout::SORT_KIND)
-    }
-
-    // Another tag.
-    pub fn read_u8(self, s: &[u8], t: &mut [u32]) -> Cursor
-        ensures { read_state result t.new ≡ run (one Tag) s.now (read_state self t.old) }
-    {
-        self.byte(s, t, layout::SORT_TAG)
-    }
-
-    // A flag.
-    pub fn read_bool(self, s: &[u8], t: &mut [u32]) -> Cursor
-        ensures { read_state result t.new ≡ run (one Flag) s.now (read_state self t.old) }
-    {
-        if self.refusal != 0 {
-            return self;
-        }
-        if LIMIT < s.len() {
-            return self.stop(1, 0);
-        }
-        let at = self.at;
-        if s.len() <= at {
-            return self.stop(5, at);
-        }
-        let b = raw_bytes::wide(s[at]);
-        if 2 <= b {
-            return self.stop(6, at);
-        }
-        self.store(t, layout::SORT_FLAG, at as u32, b, at + 1)
-    }
-
-    // A number.
-    pub fn read_u32(self, s: &[u8], t: &mut [u32]) -> Cursor
-        ensures { read_state result t.new ≡ run (one Number) s.now (read_state self t.old) }
-    {
-        self.four(s, t, layout::SORT_NUMBER)
-    }
-
-    // The count of a list.
-    pub fn read_count(self, s: &[u8], t: &mut [u32]) -> Cursor
-        ensures { read_state result t.new ≡ run (one Count) s.now (read_state self t.old) }
-    {
-        self.four(s, t, layout::SORT_COUNT)
-    }
-
-    // A text: its length, then that many bytes.
-    pub fn read_str(self, s: &[u8], t: &mut [u32]) -> Cursor
-        ensures { read_state result t.new ≡ run text s.now (read_state self t.old) }
-    {
-        if self.refusal != 0 {
-            return self;
-        }
-        if LIMIT < s.len() {
-            return self.stop(1, 0);
-        }
-        let at = self.at;
-        if s.len() < at {
-            return self.stop(5, at);
-        }
-        if s.len() - at < 4 {
-            return self.stop(5, at);
-        }
-        let len = raw_bytes::number_at(s, at);
-        let start = at + 4;
-        let size = len as usize;
-        if s.len() - start < size {
-            return self.stop(5, start);
-        }
-        let end = start + size;
-        if text::is_utf8(&s[start..end]) {
-            return self.store(t, layout::SORT_TEXT, start as u32, len, end);
-        }
-        self.stop(7, start)
-    }
-
-    // An optional text: a flag, then the text if it is 1.
-    pub fn read_option_str(self, s: &[u8], t: &mut [u32]) -> Cursor
-        ensures { read_state result t.new ≡ run OptionStr s.now (read_state self t.old) }
-    {
-        let c = self.read_bool(s, t);
-        if c.value != 0 {
-            return c.read_str(s, t);
-        }
-        c
-    }
-
-    // An optional number.
-    pub fn read_option_u32(self, s: &[u8], t: &mut [u32]) -> Cursor
-        ensures { read_state result t.new ≡ run OptionU32 s.now (read_state self t.old) }
-    {
-        let c = self.read_bool(s, t);
-        if c.value != 0 {
-            return c.read_u32(s, t);
-        }
-        c
-    }
-
-    // The cursor at the end of a payload: 12, if bytes remain.
-    pub fn finish(self, end: usize) -> Cursor
-        ensures { result ≡ finished_at end self }
+    // The end of a payload: 12, if bytes remain.
+    pub fn finish(&mut self, end: usize)
+        ensures lent { lent_of self.new ≡ lent_of self.old }
+        ensures state { state_of self.new ≡ read_state (finished_at end (cursor_of self.old)) self.old.t.now }
     {
         if self.at < end {
-            return self.refused(12, self.at);
+            self.refused(RefusalKind::TrailingBytes, self.at);
         }
-        self
     }
 
     // The answer at the end of a reading: its refusal; 13, if the table has too few rows; or the numbers of entities and rows.
     // The table then has the rows, and only 0 after them; after a refusal it is all 0.
-    pub fn answer(self, t: &mut [u32], entities: usize) -> Answer
-        ensures { result_of result t.new ≡ answered entities (read_state self t.old) }
+    pub fn answer(&mut self, entities: usize) -> Result<Counts, Refusal>
+        ensures lent { lent_of self.new ≡ lent_of self.old }
+        ensures answer { result_of result self.new.t.now ≡ answered entities (state_of self.old) }
     {
-        if self.refusal != 0 {
-            return table::refuse(t, self.refusal, self.at);
+        if let Some(kind) = self.refusal {
+            return table::refuse(self.t, kind, self.at);
         }
         let rows = self.rows;
-        if t.len() / ROW_WIDTH < rows {
-            return table::refuse(t, 13, 0);
+        if self.t.len() / ROW_WIDTH < rows {
+            return table::refuse(self.t, RefusalKind::TableTooSmall, 0);
         }
-        table::clear_from(t, ROW_WIDTH * rows);
-        Answer::Accepted { entities, rows }
+        table::clear_from(self.t, ROW_WIDTH * rows);
+        Ok(Counts { entities, rows })
     }
 
     // The answer at the end of a value that is read alone, from all the bytes given: also 1 and 12.
-    pub fn answer_alone(self, s: &[u8], t: &mut [u32], entities: usize) -> Answer
-        ensures { result_of result t.new ≡ answered_alone entities s.now (read_state self t.old) }
+    pub fn answer_alone(&mut self, entities: usize) -> Result<Counts, Refusal>
+        ensures lent { lent_of self.new ≡ lent_of self.old }
+        ensures answer { result_of result self.new.t.now ≡ answered_alone entities self.old.s.now (state_of self.old) }
     {
-        if LIMIT < s.len() {
-            return table::refuse(t, 1, 0);
+        if LIMIT < self.s.len() {
+            return table::refuse(self.t, RefusalKind::InputTooLong, 0);
         }
-        self.finish(s.len()).answer(t, entities)
+        self.finish(self.s.len());
+        self.answer(entities)
     }
+}
+
+impl<'a> Pass for Reader<'a> {
+    ghost meaning = { reader_meaning };
+
+    fn kind(&mut self) -> u32 {
+        self.byte(layout::SORT_KIND);
+        self.value
+    }
+
+    fn u8(&mut self) -> u32 {
+        self.byte(layout::SORT_TAG);
+        self.value
+    }
+
+    fn bool(&mut self) -> bool {
+        if self.left(1) {
+            let at = self.at;
+            let b = raw_bytes::wide(self.s[at]);
+            if 2 <= b {
+                self.stop(RefusalKind::BadFlag, at);
+            } else {
+                self.store(layout::SORT_FLAG, at as u32, b, at + 1);
+            }
+        }
+        0 < self.value
+    }
+
+    fn u32(&mut self) {
+        self.four(layout::SORT_NUMBER);
+    }
+
+    fn count(&mut self) -> u32 {
+        self.four(layout::SORT_COUNT);
+        self.value
+    }
+
+    // Its length, then that many bytes.
+    fn str(&mut self) {
+        if !self.left(4) {
+            return;
+        }
+        let at = self.at;
+        let len = raw_bytes::number_at(self.s, at);
+        let start = at + 4;
+        let size = len as usize;
+        if self.s.len() - start < size {
+            return self.stop(RefusalKind::Truncated, start);
+        }
+        let end = start + size;
+        if text::is_utf8(&self.s[start..end]) {
+            return self.store(layout::SORT_TEXT, start as u32, len, end);
+        }
+        self.stop(RefusalKind::NotUtf8, start);
+    }
+
+    fn place(&self) -> usize {
+        self.at
+    }
+
+    fn seen(&self, begin: usize, index: usize) -> u32 {
+        if self.s.len() <= begin || self.s.len() - begin <= index {
+            return 0;
+        }
+        raw_bytes::wide(self.s[begin + index])
+    }
+
+    fn refuse(&mut self, kind: RefusalKind, begin: usize) {
+        self.refused(kind, begin);
+    }
+
+    fn is_refused(&self) -> bool {
+        self.refusal.is_some()
+    }
+
+    ghost stays = { record { over = λ x L st h. drive_still (reader x.0) Refused (reader_still x.0) L st h; halted = λ x f begin st h. halt_refused (refusal_of f) begin.cursor.at st h } };
+
+    ghost judges = { λ x st h. reader_judges x.0 st h };
 }

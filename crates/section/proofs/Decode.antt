@@ -8,7 +8,7 @@ use borrow.Author.Tests.{lt-leb, le-leb}
 use Rattle.layout.specs.Reading.{ok, refuse}
 use Rattle.layout.specs.Answers.{limit, Result, refusal}
 use Rattle.layout.specs.Theorems.{Bytes}
-use Rattle.leaf.specs.Answered.{answered}
+use Rattle.reading.specs.Answered.{answered}
 use Rattle.framing.specs.Framing.{Parts, framing}
 use Rattle.framing.specs.Answers.{end_of, framing_end}
 use Rattle.section.specs.Section.{read_section, reading}

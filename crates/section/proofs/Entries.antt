@@ -19,14 +19,14 @@ use Rattle.layout.proofs.Walk.{all_ok}
 use Rattle.layout.proofs.InBytes.{read_sound}
 use Rattle.leaf.specs.declared.Cursor.{Cursor}
 use Rattle.raw_bytes.specs.Bytes.{number_or0, same}
-use Rattle.leaf.specs.State.{ReadState, read_state, new_cursor, seek, finished_at, stopped}
-use Rattle.leaf.specs.Run.{run}
-use Rattle.leaf.specs.Answered.{answered}
-use Rattle.leaf.specs.Theorems.{arrive_all, Follows}
+use Rattle.reading.specs.State.{ReadState, read_state, new_cursor, seek, finished_at, stopped}
+use Rattle.reading.specs.Run.{run}
+use Rattle.reading.specs.Answered.{answered}
+use Rattle.reading.specs.Theorems.{arrive_all, Follows}
 use Rattle.raw_bytes.proofs.Number.{number_there}
-use Rattle.leaf.proofs.Table.{arrive_all_length, fills, counts}
-use Rattle.leaf.proofs.Reading.{arrive_all_refusal, moved_of, stops_of, run_read}
-use Rattle.leaf.proofs.Answered.{finished_refused, answered_refused, answered_told}
+use Rattle.reading.proofs.Table.{arrive_all_length, fills, counts}
+use Rattle.reading.proofs.Reading.{arrive_all_refusal, moved_of, stops_of, run_read}
+use Rattle.reading.proofs.Answered.{finished_refused, answered_refused, answered_told}
 use Rattle.framing.specs.Framing.{Part, Parts, framing_from}
 use Rattle.framing.specs.Answers.{end_of, framing_end}
 use Rattle.framing.specs.Entries.{framed, Framable, sentinel_bytes}

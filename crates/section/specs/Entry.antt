@@ -3,8 +3,8 @@ use Rattle.std.specs.Prelude.{ℕ, ◌+◌, cond, ◌&&◌, List, eqb, ltb, leb,
 use Rattle.layout.specs.Entities.{Entity}
 use Rattle.layout.specs.Answers.{limit}
 use Rattle.raw_bytes.specs.Bytes.{number_or0, same}
-use Rattle.leaf.specs.State.{ReadState, read_state, seek, finished_at}
-use Rattle.leaf.specs.Run.{run}
+use Rattle.reading.specs.State.{ReadState, read_state, seek, finished_at}
+use Rattle.reading.specs.Run.{run}
 use Rattle.framing.specs.Entries.{sentinel_bytes}
 use Rattle.framing.specs.Places.{entry_end}
 use Rattle.section.specs.declared.Progress.{Progress}

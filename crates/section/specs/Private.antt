@@ -1,8 +1,8 @@
 -- Definitions for the contracts of private functions; no public contract cites them.
 use Rattle.std.specs.Prelude.{ℕ, ◌≤◌, List, [], ◌∷◌, ◌≡◌, length}
 use Rattle.layout.specs.Reading.{Outcome, ok, refuse}
-use Rattle.leaf.specs.State.{ReadState, read_state, new_cursor}
-use Rattle.leaf.specs.Theorems.{arrive_all}
+use Rattle.reading.specs.State.{ReadState, read_state, new_cursor}
+use Rattle.reading.specs.Theorems.{arrive_all}
 use Rattle.section.specs.Derivation.{Placed}
 use Rattle.framing.specs.Framing.{framing_from}
 use Rattle.framing.specs.Answers.{end_of, framing_end}

@@ -18,10 +18,10 @@ use Rattle.layout.specs.Theorems.{Bytes}
 use Rattle.layout.proofs.Equations.{read_check}
 use Rattle.layout.proofs.InBytes.{rest_after, read_sound}
 use Rattle.leaf.specs.declared.Cursor.{Cursor}
-use Rattle.leaf.specs.State.{ReadState, read_state, new_cursor, seek}
-use Rattle.leaf.specs.Run.{run}
-use Rattle.leaf.specs.Theorems.{arrive_all, Follows}
-use Rattle.leaf.proofs.Reading.{arrive_all_refusal, moved_of, stops_of, run_read}
+use Rattle.reading.specs.State.{ReadState, read_state, new_cursor, seek}
+use Rattle.reading.specs.Run.{run}
+use Rattle.reading.specs.Theorems.{arrive_all, Follows}
+use Rattle.reading.proofs.Reading.{arrive_all_refusal, moved_of, stops_of, run_read}
 use Rattle.sql_text.specs.declared.Found.{Found}
 use Rattle.sql_text.specs.declared.Found.TheVariants.{Stored, Numeric as Numeric'}
 use Rattle.numeric.specs.declared.OptionU32.{OptionU32}

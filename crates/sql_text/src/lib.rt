@@ -3,7 +3,7 @@
 
 ghost use Rattle.std.specs.Prelude.{◌≡◌, ◌+◌, ◌*◌, ◌≤◌, length};
 ghost use Rattle.layout.specs.Written.{row_width, value_at};
-ghost use Rattle.leaf.specs.State.{new_cursor, seek};
+ghost use Rattle.reading.specs.State.{new_cursor, seek};
 ghost use Rattle.numeric.specs.Numeric.{option_of};
 ghost use Rattle.place.specs.Place.{number_in, place_in};
 ghost use Rattle.sql_text.specs.SqlText.{number_if, sql_text, sql_part_of, filled, sql_answer, sql_answer_of};

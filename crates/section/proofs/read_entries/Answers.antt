@@ -2,7 +2,7 @@
 use Rattle.section.proofs.Entries.{come_start, come_length, entry_fits, few_entities, leads, come_end}
 use Rattle.section.specs.Entry.{stage, staged}
 use Rattle.leaf.specs.declared.Cursor.{Cursor}
-use Rattle.leaf.specs.State.{read_state}
+use Rattle.reading.specs.State.{read_state}
 use mathlib.Core.Path.{ap, ◌∙◌}
 use native.Mathlib.Omega.{arith}
 use Rattle.section.proofs.read_entries.Goals as goal

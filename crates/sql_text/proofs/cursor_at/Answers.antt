@@ -1,6 +1,6 @@
 -- A new cursor, at the byte.
 use mathlib.Core.Path.{ap, ◌∙◌}
-use Rattle.leaf.specs.State.{seek}
+use Rattle.reading.specs.State.{seek}
 use Rattle.sql_text.proofs.cursor_at.Goals as goal
 
 pub returns : goal.returns

@@ -1,0 +1,12 @@
+-- Too many bytes, or the answer at the end.
+use borrow.Author.Tests.{lt-leb, le-leb}
+use Rattle.reading.specs.Answered.{answered_alone}
+use Rattle.leaf.proofs.Reader.answer_alone.Goals as goal
+
+pub returns-then-self-gt-LIMIT-clause-answer : goal.returns-then-self-gt-LIMIT-clause-answer
+unfolding answered_alone
+returns-then-self-gt-LIMIT-clause-answer c = rw (lt-leb _ _ c.if-self-gt-LIMIT.true) c.refuse.ensures
+
+pub returns-clause-answer : goal.returns-clause-answer
+unfolding answered_alone
+returns-clause-answer c = rw (le-leb _ _ c.if-self-gt-LIMIT.false, ← c.finish.ensures.state) c.answer.ensures.answer

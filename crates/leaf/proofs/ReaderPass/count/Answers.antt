@@ -1,0 +1,10 @@
+-- The number read is a leaf of its sort.
+use Rattle.layout.specs.Layout.{Count}
+use Rattle.layout.specs.Machine.{drive}
+use Rattle.reading.specs.State.{read_plain}
+use Rattle.leaf.proofs.Leaves.{number_arrives}
+use Rattle.leaf.proofs.ReaderPass.count.Goals as goal
+
+pub returns-clause-runs : goal.returns-clause-runs
+unfolding drive read_plain
+returns-clause-runs c = record { lent = c.four.ensures.lent; state = rw (← number_arrives Count) c.four.ensures.state }

@@ -1,12 +1,13 @@
 -- From boundary to boundary: a whole entry, or the end of the framing.
-use Prim.Native.Nat.{ℕ, ◌+◌, ◌≤◌, ◌<◌}
+use Prim.Native.Nat.{ℕ, ◌+◌, ◌-◌, ◌≤◌, ◌<◌}
 use native.Mathlib.Omega.{arith}
 use mathlib.Core.Bool.{Bool, true, false, cond, ◌&&◌}
 use mathlib.Core.List.{List, [], ◌∷◌}
 use mathlib.Core.Logic.{◌⊎◌, inl, inr}
 use mathlib.Core.Path.{◌≡◌, refl, sym, ◌∙◌}
 use lib.Dec.{leb}
-use lib.ListN.{length, drop}
+use lib.ListN.{length, take, drop, length-drop}
+use lib.Seq.{take_all}
 use borrow.Author.Tests.{leb-true, leb-false, le-leb, lt-leb}
 use Rattle.layout.specs.Reading.{ok, refuse, number_at}
 use Rattle.layout.specs.Theorems.{Bytes}
@@ -68,6 +69,10 @@ pub whole_at : (s : List ℕ) (at end : ℕ) → end ≡ entry_end s at → at <
 whole_at s at end e h =
     let (i, j, k) = whole_here s at (omega (arith, e)) in
     (omega (arith, e, i), omega (arith, e, i))
+
+-- The bytes from a place on
+pub rest_there : (s rest : List ℕ) (at : ℕ) → rest ≡ take (length s - at) (drop at s) → rest ≡ drop at s
+rest_there s rest at e = e ∙ take_all (length s - at) (drop at s) (omega (arith, length-drop at s))
 
 -- If no whole entry is at a boundary and the length is not 0, the length is too long
 pub none_long : (s : List ℕ) (at : ℕ) → entry_end s at ≡ at → 1 ≤ number_or0 s at → length s < at + 4 + number_or0 s at

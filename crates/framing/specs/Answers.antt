@@ -1,16 +1,16 @@
 -- What the framing alone answers.
-use Rattle.std.specs.Prelude.{ℕ, ◌≤◌, List, ◌↔◌, ◌≡◌, leb, length}
+use Rattle.std.specs.Prelude.{ℕ, ◌≤◌, List, ◌↔◌, ◌≡◌, leb, length, Result, Ok, Err}
 use Rattle.layout.specs.Reading.{Outcome, ok, refuse, ◌>>=◌, need}
 use Rattle.layout.specs.Answers.{limit}
+use Rattle.table.specs.declared.Refusal.{Refusal}
+use Rattle.table.specs.Answers.{number_of}
 use Rattle.framing.specs.Framing.{Parts, framing}
 use Rattle.framing.specs.Refusals.{FramingRefusal, WholeFraming}
-use Rattle.framing.specs.declared.Framed.TheVariants.{Whole, Refused}
-use Rattle.framing.specs.declared.Framed as declared
 
 -- The meaning of each case: where the padding begins, or the number and place
-abbrev pub framing_of : declared.Framed → Outcome ℕ (Unit {0})
-framing_of (Whole end) = ok tt end
-framing_of (Refused refusal) = refuse refusal.number refusal.place
+abbrev pub framing_of : Result ℕ Refusal → Outcome ℕ (Unit {0})
+framing_of (Ok end) = ok tt end
+framing_of (Err refusal) = refuse (number_of refusal.kind) refusal.place
 
 -- Where a framing ends, without the parts it finds
 abbrev pub end_of : Parts → Outcome ℕ (Unit {0})

@@ -1,8 +1,7 @@
 // The framing of a section: entries of a length and a payload, then padding; and the sentinel, a payload that yields nothing.
 #![tactic(auto)]
 
-ghost use Rattle.std.specs.Prelude.{◌≤◌, true, false, ◌&&◌, ◌↔◌, ◌≡◌, length, drop};
-ghost use Rattle.layout.specs.Reading.{refuse};
+ghost use Rattle.std.specs.Prelude.{true, false, ◌↔◌, ◌≡◌};
 ghost use Rattle.raw_bytes.specs.Bytes.{same};
 ghost use Rattle.framing.specs.Framing.{all_zero, framing_from};
 ghost use Rattle.framing.specs.Answers.{framing_of, end_of, entry_payloads, ExactFraming};
@@ -10,72 +9,51 @@ ghost use Rattle.framing.specs.Entries.{sentinel_bytes};
 ghost use Rattle.framing.specs.Places.{entry_end, sentinel_at, past_sentinels};
 
 use layout::LIMIT;
-use table::Refusal;
+use table::{Refusal, RefusalKind};
 
-// The sentinel's payload, 00 04 00 00 00 70 67 72 78, as two numbers and a byte.
-const SENTINEL_FIRST: u32 = 0x0000_0400;
-
-const SENTINEL_SECOND: u32 = 0x7267_7000;
-
-const SENTINEL_LAST: u8 = 0x78;
-
-// Its length.
-const SENTINEL_SIZE: usize = 9;
+// The sentinel's payload.
+const SENTINEL: &[u8] = b"\x00\x04\x00\x00\x00pgrx";
 
 // How many bytes are tested for zeros at a time.
 const BLOCK: usize = 64;
 
-// The result of the framing: where the padding begins, or a refusal.
-#[derive(Drop)]
-pub enum Framed {
-    Whole { end: usize },
-    Refused(Refusal),
-}
-
-// Whether there are only zeros from a place on. Whole blocks come first.
-fn all_zero(s: &[u8], at: usize) -> bool
-    requires { at ≤ length s.now }
-    ensures { result ≡ all_zero (drop at s.now) }
+// Whether there are only zeros. Whole blocks come first.
+fn all_zero(s: &[u8]) -> bool
+    ensures { result ≡ all_zero s.now }
 {
-    let mut i = at;
-    while BLOCK <= s.len() - i {
-        let e = i + BLOCK;
-        if !zeros(s, i, e) {
+    let (blocks, rest) = s.as_chunks::<BLOCK>();
+    for block in blocks {
+        if !zeros(block) {
             return false;
         }
-        i = e;
     }
-    zeros(s, i, s.len())
+    zeros(rest)
 }
 
-// Whether there are only zeros from one place up to another. There is no early exit, so that the compiler can handle many bytes
-// at a time.
-fn zeros(s: &[u8], a: usize, e: usize) -> bool
-    requires { (a ≤ e) × (e ≤ length s.now) }
-    ensures { all_zero (drop a s.now) ≡ (result && all_zero (drop e s.now)) }
+// The same, with no early exit, so that the compiler can handle many bytes at a time.
+fn zeros(s: &[u8]) -> bool
+    ensures { result ≡ all_zero s.now }
 {
-    let mut bits: u8 = 0;
-    let mut i = a;
-    while i < e {
-        bits |= s[i];
-        i += 1;
+    let mut bits = 0;
+    for byte in s {
+        bits |= *byte;
     }
     bits == 0
 }
 
 // The framing alone, with the refusals 1 to 4.
-pub fn entry_payloads(section: &[u8]) -> Framed
+pub fn entry_payloads(section: &[u8]) -> Result<usize, Refusal>
     ensures result_value { framing_of result ≡ entry_payloads section.now }
     ensures exact_framing { ExactFraming section.now (framing_of result) }
 {
     if LIMIT < section.len() {
-        return unframed(1, 0);
+        return Err(Refusal::at(RefusalKind::InputTooLong, 0));
     }
     framing_from(section, 0)
 }
 
 // The framing from a boundary on, with the refusals 2 to 4. Its entries are walked by their lengths.
-pub fn framing_from(s: &[u8], from: usize) -> Framed
+pub fn framing_from(s: &[u8], from: usize) -> Result<usize, Refusal>
     ensures { framing_of result ≡ end_of (framing_from s.now from) }
 {
     let mut at = from;
@@ -102,30 +80,23 @@ pub fn entry_end(s: &[u8], at: usize) -> usize
 }
 
 // The framing at a boundary where there is no whole entry. Only here are all bytes up to the end tested.
-fn framing_at(s: &[u8], at: usize) -> Framed
+fn framing_at(s: &[u8], at: usize) -> Result<usize, Refusal>
     requires { entry_end s.now at ≡ at }
     ensures { framing_of result ≡ end_of (framing_from s.now at) }
 {
-    if s.len() < at {
-        return Framed::Whole { end: at };
+    let Some(rest) = s.get(at..) else {
+        return Ok(at);
+    };
+    if all_zero(rest) {
+        return Ok(at);
     }
-    if all_zero(s, at) {
-        return Framed::Whole { end: at };
-    }
-    if s.len() - at < 4 {
-        return unframed(2, at);
+    if rest.len() < 4 {
+        return Err(Refusal::at(RefusalKind::PartialLength, at));
     }
     if raw_bytes::number_at(s, at) == 0 {
-        return unframed(3, at);
+        return Err(Refusal::at(RefusalKind::ZeroLength, at));
     }
-    unframed(4, at)
-}
-
-// A refusal of the framing.
-fn unframed(number: u32, place: usize) -> Framed
-    ensures { framing_of result ≡ refuse number place }
-{
-    Framed::Refused(Refusal { number, place })
+    Err(Refusal::at(RefusalKind::EntryTooLong, at))
 }
 
 // Whether a payload is the sentinel. Most have another length.
@@ -133,16 +104,7 @@ pub fn is_sentinel(payload: &[u8]) -> bool
     ensures value { result ≡ same payload.now sentinel_bytes }
     ensures variant { (result ≡ true) ↔ (payload.now ≡ sentinel_bytes) }
 {
-    if payload.len() != SENTINEL_SIZE {
-        return false;
-    }
-    if raw_bytes::number_at(payload, 0) != SENTINEL_FIRST {
-        return false;
-    }
-    if raw_bytes::number_at(payload, 4) != SENTINEL_SECOND {
-        return false;
-    }
-    payload[8] == SENTINEL_LAST
+    payload == SENTINEL
 }
 
 // Whether the sentinel's entry is at a place.
@@ -150,11 +112,7 @@ pub fn sentinel_at(s: &[u8], at: usize) -> bool
     ensures { result ≡ sentinel_at s.now at }
 {
     let end = entry_end(s, at);
-    if end <= at {
-        return false;
-    }
-    let begin = at + 4;
-    is_sentinel(&s[begin..end])
+    at < end && is_sentinel(&s[at + 4..end])
 }
 
 // Past the sentinels from a place on: where the entry of the next entity begins, if there is one.

@@ -6,7 +6,7 @@ use Rattle.framing.proofs.entry_payloads.Goals as goal
 
 pub returns-then-section-gt-LIMIT : goal.returns-then-section-gt-LIMIT
 returns-then-section-gt-LIMIT c =
-    let told = framing_limit c.args.section.now (λ i h. omega (arith, c.type_inv.section i)) _ c.if-section-gt-LIMIT.true c.unframed.ensures in
+    let told = framing_limit c.args.section.now (λ i h. omega (arith, c.type_inv.section i)) _ c.if-section-gt-LIMIT.true (rw c.at.ensures) in
     record { result_value = told.0; exact_framing = told.1 }
 
 pub returns : goal.returns

@@ -1,17 +1,8 @@
 -- From boundary to boundary.
 use Rattle.framing.proofs.Entries.{next_end, none_here}
-use mathlib.Core.Path.{refl, sym, ◌∙◌}
+use mathlib.Core.Path.{sym, ◌∙◌}
 use native.Mathlib.Omega.{arith}
 use Rattle.framing.proofs.framing_from.Goals as goal
-
-pub entry_end-end-requires : goal.entry_end-end-requires
-entry_end-end-requires c = tt
-
-pub loop-at-init : goal.loop-at-init
-loop-at-init c = (refl, c.entry_end-end.ensures)
-
-pub entry_end-end-requires-in-loop-at : goal.entry_end-end-requires-in-loop-at
-entry_end-end-requires-in-loop-at c = tt
 
 pub loop-at-smaller : goal.loop-at-smaller
 loop-at-smaller c =

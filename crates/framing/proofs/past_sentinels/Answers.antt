@@ -1,18 +1,9 @@
 -- From sentinel to sentinel.
-use mathlib.Core.Path.{refl, sym, ap, ◌∙◌}
+use mathlib.Core.Path.{sym, ap, ◌∙◌}
 use native.Mathlib.Omega.{arith}
 use Rattle.framing.specs.Places.{past_sentinels}
 use Rattle.framing.proofs.Sentinels.{sentinel_whole, end_inside, past_stay, past_on}
 use Rattle.framing.proofs.past_sentinels.Goals as goal
-
-pub loop-at-init : goal.loop-at-init
-loop-at-init c = refl
-
-pub sentinel_at-requires : goal.sentinel_at-requires
-sentinel_at-requires c = tt
-
-pub entry_end-at-requires : goal.entry_end-at-requires
-entry_end-at-requires c = tt
 
 pub loop-at-smaller : goal.loop-at-smaller
 loop-at-smaller c =

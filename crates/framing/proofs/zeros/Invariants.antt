@@ -4,11 +4,7 @@ use lib.ListN.{drop}
 use lib.Dec.{eqb}
 use mathlib.Core.Path.{◌≡◌}
 use mathlib.Core.Bool.{◌&&◌}
-use Prim.Native.Nat.{◌-◌, ◌≤◌}
 use Rattle.framing.proofs.zeros.Given as goal
 
-abbrev pub invariant-loop-i : goal.invariant-loop-i
-invariant-loop-i l = (l.i ≤ l.e) × (all_zero (drop l.a l.s) ≡ (eqb l.bits 0 && all_zero (drop l.i l.s)))
-
-abbrev pub decreases-loop-i : goal.decreases-loop-i
-decreases-loop-i l = l.e - l.i
+abbrev pub invariant-loop-byte : goal.invariant-loop-byte
+invariant-loop-byte l = all_zero l.s ≡ (eqb l.bits 0 && all_zero (drop l.byte-index l.s))

@@ -1,17 +1,15 @@
 // The leaves: a reader of a payload that reads a flag, a number, a tag, a count or a text, and stores its row.
 #![tactic(auto)]
 
-ghost use Rattle.std.specs.Prelude.{[], ◌∷◌, ◌≡◌, true};
+ghost use Rattle.std.specs.Prelude.{[], ◌∷◌, ◌≡◌};
+ghost use Rattle.layout.specs.Layout.{refusal_of};
 ghost use Rattle.layout.specs.Reading.{byte_at, four_at};
 ghost use Rattle.table.specs.Answers.{number_of, result_of};
 ghost use Rattle.reading.specs.State.{read_state, new_cursor, seek, refused_once, finished_at, stop, put, guarded};
 ghost use Rattle.leaf.specs.Reader.{cursor_of, state_of, lent_of, reader_meaning};
 ghost use Rattle.reading.specs.Answered.{answered, answered_alone};
 ghost use Rattle.leaf.specs.Private.{put_number, Left};
-ghost use Rattle.layout.specs.Layout.{refusal_of};
-ghost use Rattle.layout.proofs.Forms.{drive_still};
-ghost use Rattle.reading.specs.Run.{reader};
-ghost use Rattle.reading.proofs.Still.{Refused, reader_still, halt_refused};
+ghost use Rattle.reading.proofs.Still.{run_refused, halt_refused};
 ghost use Rattle.reading.proofs.Result.{reader_judges};
 
 use layout::{LIMIT, ROW_WIDTH};
@@ -99,18 +97,14 @@ impl<'a> Reader<'a> {
         ensures state { state_of self.new ≡ put (sort ∷ offset ∷ value ∷ []) value next (state_of self.old) }
     {
         let whole = self.t.len() / ROW_WIDTH;
-        let mut rows = whole;
         if self.rows < whole {
-            rows = self.rows;
-            let i = ROW_WIDTH * rows;
-            let j = i + 1;
-            let k = j + 1;
+            let i = ROW_WIDTH * self.rows;
             self.t[i] = sort;
-            self.t[j] = offset;
-            self.t[k] = value;
+            self.t[i + 1] = offset;
+            self.t[i + 2] = value;
         }
         self.at = next;
-        self.rows = rows + 1;
+        self.rows = self.rows.min(whole) + 1;
         self.value = value;
     }
 
@@ -251,7 +245,7 @@ impl<'a> Pass for Reader<'a> {
         self.refusal.is_some()
     }
 
-    ghost stays = { record { over = λ x L st h. drive_still (reader x.0) Refused (reader_still x.0) L st h; halted = λ x f begin st h. halt_refused (refusal_of f) begin.cursor.at st h } };
+    ghost stays = { record { over = λ x L st h. run_refused L x.0 st h; halted = λ x f begin st h. halt_refused (refusal_of f) begin.cursor.at st h } };
 
     ghost judges = { λ x st h. reader_judges x.0 st h };
 }

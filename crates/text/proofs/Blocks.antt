@@ -1,10 +1,12 @@
 -- ASCII in a text: joining parts, and walking over them.
-use Rattle.std.proofs.Common.{◌≡◌, ℕ, zero, suc, ◌+◌, ◌-◌, ◌<◌, ◌≤◌, Bool, true, false, eqb, ltb, List, length, get_or, take, sym, refl, ap, ◌∙◌, zero-le, add-zero, arith, ltb-false, ltb-true}
-use lib.Seq.{take-length}
+use Rattle.std.proofs.Common.{◌≡◌, ℕ, zero, suc, ◌+◌, ◌-◌, ◌*◌, length-drop, ◌<◌, ◌≤◌, Bool, true, false, eqb, ltb, List, length, ◌++◌, get_or, take, drop, sym, refl, ap, ◌∙◌, zero-le, zero-mul, add-zero, arith, ltb-false, ltb-true}
+use lib.Seq.{take-length, length-take-le}
+use Rattle.std.proofs.lemmas.List.{take-append-drop, get_or-take, get_or-drop, drop-drop}
+use Rattle.std.specs.Simd.{first_chunks}
 use Rattle.text.specs.Walk.{State, start, wanted_after, accepting, utf8}
 use Rattle.text.specs.Private.{code, Reaches, Ascii}
 use Rattle.text.proofs.Codes.{run_snoc, code_injective, code_accepting}
-use Rattle.text.proofs.Exact.{ascii_step}
+use Rattle.text.proofs.Exact.{ascii_step, wanted_append}
 
 -- Two parts that meet or overlap
 pub ascii_join : (s : List ℕ) (a m b e : ℕ) → b ≤ m → Ascii s a m → Ascii s b e → Ascii s a e
@@ -31,9 +33,18 @@ ascii_runs s p a e h l f q =
     let n : a + (e - a) ≡ e = omega arith in
     rw n at (ascii_steps s p a (e - a) (omega arith) (rw n f) q)
 
+pub ascii_over : (s : List ℕ) → Ascii s 0 (length s) → wanted_after start s ≡ start
+ascii_over s f = rw (take-length s) at (ascii_runs s start 0 (length s) zero-le (omega arith) f refl)
+
 -- A walk passes over ASCII in the state 0
-pub passed : (s : List ℕ) (a e x : ℕ) → a ≤ e → e ≤ length s → x ≡ 0 → Ascii s a e → Reaches s a e x x
-passed s a e x h l z f p q = z ∙ sym (ap code (ascii_runs s p a e h l f (code_injective (wanted_after p (take a s)) start (sym q ∙ z))))
+pub passed : (s : List ℕ) (x : ℕ) → x ≡ 0 → Ascii s 0 (length s) → Reaches s x x
+passed s x z f p q =
+    let e : p ≡ start = code_injective p start (sym q ∙ z) in
+    z ∙ sym (ap (λ (o : State). code (wanted_after o s)) e ∙ ap code (ascii_over s f))
+
+-- A walk over two parts
+pub onward : (l m : List ℕ) {q x r : ℕ} → Reaches l q x → Reaches m x r → Reaches (l ++ m) q r
+onward l m f g p e = g (wanted_after p l) (f p e) ∙ ap code (sym (wanted_append p l m))
 
 -- A state in which nothing is wanted ascii_stays the same over ASCII
 pub ascii_stays : (s : List ℕ) (p q : State) (a e : ℕ) → a ≤ e → e ≤ length s → Ascii s a e → code q ≡ 0 → q ≡ wanted_after p (take a s) → q ≡ wanted_after p (take e s)
@@ -43,10 +54,27 @@ ascii_stays s p q a e h l f z w =
 
 -- A text of ASCII is UTF-8
 pub ascii_utf8 : (s : List ℕ) → Ascii s 0 (length s) → true ≡ utf8 s
-ascii_utf8 s f = sym (ap accepting (rw (take-length s) at (ascii_runs s start 0 (length s) zero-le (omega arith) f refl)))
+ascii_utf8 s f = sym (ap accepting (ascii_over s f))
 
--- The answer, from a walk that begins after ASCII
-pub answered : (s : List ℕ) (i r : ℕ) → i ≤ length s → Ascii s 0 i → Reaches s i (length s) 0 r → eqb r 0 ≡ utf8 s
+-- The answer, from a walk over what follows ASCII
+pub answered : (s : List ℕ) (i r : ℕ) → i ≤ length s → Ascii s 0 i → Reaches (drop i s) 0 r → eqb r 0 ≡ utf8 s
 answered s i r h f w =
-    let begun : 0 ≡ code (wanted_after start (take i s)) = sym (ap code (ascii_runs s start 0 i zero-le h f refl)) in
-    rw (w start begun, take-length s) (code_accepting (wanted_after start s))
+    let begun : wanted_after start (take i s) ≡ start = ascii_runs s start 0 i zero-le h f refl in
+    let whole : wanted_after start s ≡ wanted_after start (drop i s) =
+    ap (λ (l : List ℕ). wanted_after start l) (sym (take-append-drop i s)) ∙ wanted_append start (take i s) (drop i s) ∙ ap (λ (q : State). wanted_after q (drop i s)) begun in
+    rw (w start refl, whole) (code_accepting (wanted_after start (drop i s)))
+
+-- The bytes of a part
+pub ascii_part : (s : List ℕ) (a n : ℕ) → Ascii (take n (drop a s)) 0 (length (take n (drop a s))) → a + n ≤ length s → Ascii s a (a + n)
+ascii_part s a n f h k l u =
+    let at : a + (k - a) ≡ k = omega arith in
+    let same : get_or (take n (drop a s)) (k - a) 0 ≡ get_or s k 0 = rw at at (get_or-take n (drop a s) (k - a) 0 (omega arith) ∙ get_or-drop a s (k - a) 0) in
+    rw (← same) (f (k - a) zero-le (omega (arith, length-take-le n (drop a s) (omega (arith, length-drop a s)))))
+
+-- A part of a text that is cut into parts of n bytes
+pub chunk_at : (n c : ℕ) (s : List ℕ) (k : ℕ) (d : List ℕ) → k < c → get_or (first_chunks n c s) k d ≡ take n (drop (k * n) s)
+chunk_at n zero s k d h = absurd (omega arith)
+chunk_at n (suc c) s zero d h = rw zero-mul refl
+chunk_at n (suc c) s (suc k) d h =
+    let e : n + k * n ≡ suc k * n = omega arith in
+    chunk_at n c (drop n s) k d (omega arith) ∙ rw (← e) (ap (take n) (drop-drop (k * n) n s))

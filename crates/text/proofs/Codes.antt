@@ -1,9 +1,14 @@
 -- The codes of the states, and one iteration of a walk's loop.
-use Rattle.std.proofs.Common.{◌≡◌, ℕ, ◌+◌, ◌/◌, ◌%◌, ◌^◌, ◌<◌, true, eqb, ltb, List, [], ◌∷◌, length, get_or, take, sym, refl, ap, ◌∙◌, add-one, take-suc, ltb-true}
+use Rattle.std.proofs.Common.{◌≡◌, ℕ, ◌+◌, ◌/◌, ◌%◌, ◌^◌, ◌<◌, true, false, not, eqb, ltb, List, [], ◌∷◌, length, get_or, take, sym, refl, ap, ◌∙◌, add-one, take-suc, ltb-true}
 use mathlib.Core.List.{foldl, foldl-append}
 use lib.Seq.{take-length}
 use Rattle.text.specs.Walk.{State, start, tail_1, tail_2, tail_3, after_e0, after_ed, after_f0, after_f4, failed, step, wanted_after, accepting}
 use Rattle.text.specs.Private.{code, Encodes, Follows}
+use denote.Enum.Bare.{sameb}
+use Rattle.text.specs.contracts.State.{the_type}
+use Rattle.text.specs.declared.State as declared
+use Rattle.text.specs.declared.State.TheVariants.{Start, One, Two, Three, AfterE0, AfterED, AfterF0, AfterF4, Wrong}
+use Rattle.text.specs.States.{state_of}
 
 -- The states in the order of their codes
 abbrev pub numbered : ℕ → State
@@ -55,3 +60,26 @@ walked p s i x r h f e = rw (run_snoc p s i h) (f (wanted_after p (take i s)) e)
 
 pub ended : (p : State) (s : List ℕ) (i x : ℕ) → i ≡ length s → x % 64 ≡ code (wanted_after p (take i s)) → x % 64 ≡ code (wanted_after p s)
 ended p s i x e h = rw (e, take-length s) at h
+
+-- The test for the state Start
+pub is_start : (q : declared.State) → sameb the_type q Start ≡ accepting (state_of q)
+is_start Start = refl
+is_start One = refl
+is_start Two = refl
+is_start Three = refl
+is_start AfterE0 = refl
+is_start AfterED = refl
+is_start AfterF0 = refl
+is_start AfterF4 = refl
+is_start Wrong = refl
+
+pub at_start : (q : declared.State) → false ≡ not (sameb the_type q Start) → code (state_of q) ≡ 0
+at_start Start e = refl
+at_start One e = cc
+at_start Two e = cc
+at_start Three e = cc
+at_start AfterE0 e = cc
+at_start AfterED e = cc
+at_start AfterF0 e = cc
+at_start AfterF4 e = cc
+at_start Wrong e = cc

@@ -1,9 +1,7 @@
 -- What the server keeps of a name: PostgreSQL keeps 63 bytes, cut at a character boundary (docs/FORMAT.md, Texts, SQL names and SQL texts).
-use Rattle.std.specs.Prelude.{ℕ, zero, suc, ◌≤◌, Bool, cond, ◌&&◌, List, length, take, nat_le}
+use Rattle.std.specs.Prelude.{ℕ, zero, suc, ◌≤◌, Bool, cond, ◌&&◌, List, Option, Some, None, length, take, nat_le}
 use Rattle.text.specs.Rfc3629.{Utf8}
 use Rattle.text.specs.Walk.{utf8}
-use Rattle.text.specs.declared.TextCheck.{TextCheck}
-use Rattle.text.specs.declared.TextCheck.TheVariants.{Yes, No}
 
 -- How many bytes of a name the server keeps at most
 abbrev pub most_kept : ℕ
@@ -47,7 +45,7 @@ abbrev pub ExactCheck : List ℕ → TextAnswer → Type 0
 ExactCheck t (text_kept k) = Utf8 t × ServerKeeps t k
 ExactCheck t no_text = Utf8 t → ⊥
 
--- The meaning of each case of the code's answer
-abbrev pub text_answer : TextCheck → TextAnswer
-text_answer (Yes k) = text_kept k
-text_answer No = no_text
+-- The meaning of the code's answer
+abbrev pub text_answer : Option ℕ → TextAnswer
+text_answer (Some k) = text_kept k
+text_answer None = no_text

@@ -26,9 +26,9 @@ pub record Encodes (classes rows : List ℕ) : Type 0 where
 abbrev pub Follows : ℕ → ℕ → ℕ → Type 0
 Follows x b r = (p : State) → x % 64 ≡ code p → r % 64 ≡ code (step p b)
 
--- From x, the code of the state after the first a bytes of s, the walk leads to r, the code of the state after the first e
-abbrev pub Reaches : List ℕ → ℕ → ℕ → ℕ → ℕ → Type 0
-Reaches s a e x r = (p : State) → x ≡ code (wanted_after p (take a s)) → r ≡ code (wanted_after p (take e s))
+-- From x, the code of a state, the walk over s leads to r, the code of the state after its bytes
+abbrev pub Reaches : List ℕ → ℕ → ℕ → Type 0
+Reaches s x r = (p : State) → x ≡ code p → r ≡ code (wanted_after p s)
 
 -- The bytes of s from a up to e are below 128
 abbrev pub Ascii : List ℕ → ℕ → ℕ → Type 0

@@ -8,25 +8,26 @@ ghost use Rattle.text.specs.Walk.{within, step, wanted_after, utf8};
 ghost use Rattle.text.specs.Kept.{kept_length, check_text, ExactCheck, text_answer};
 ghost use Rattle.text.specs.States.{state_of};
 ghost use Rattle.text.specs.Colons.{unwalked, colons_after};
-ghost use Rattle.text.specs.Private.{code, Encodes, Follows, Reaches, Decodes, Ascii, Packs, StaysClosed, Completes};
+ghost use Rattle.text.specs.Private.{code, Reaches, Decodes, Ascii, Packs, StaysClosed, Completes};
 
 mod tables;
 
-use tables::{CLASS, NEXT};
+use tables::next_of;
 
 // Where a walk stands: at the start of a character, one to three continuation bytes before its end, after one of the four lead
-// bytes that narrow the second byte, or past a wrong byte.
-#[derive(Clone, Copy)]
+// bytes that narrow the second byte, or past a wrong byte. A walk holds the number of its state: the place of the state's six bits
+// in a row of the table.
+#[derive(Clone, Copy, Debug, PartialEq, Eq)]
 pub enum State {
-    Start,
-    One,
-    Two,
-    Three,
-    AfterE0,
-    AfterED,
-    AfterF0,
-    AfterF4,
-    Wrong,
+    Start = 0,
+    One = 6,
+    Two = 12,
+    Three = 18,
+    AfterE0 = 24,
+    AfterED = 30,
+    AfterF0 = 36,
+    AfterF4 = 42,
+    Wrong = 48,
 }
 
 // Where a walk stands that also finds the pairs of colons: its state; whether a pair is open, which the next byte closes if it is
@@ -38,12 +39,6 @@ pub struct ColonWalk {
     pub end: usize,
 }
 
-// The answer of the text check: yes, with how many bytes of such a name the server keeps; or no.
-#[derive(Drop)]
-pub enum TextCheck {
-    Yes { kept: usize },
-    No,
-}
 
 // How far a walk has come that has no pair open, and where the last pair ended.
 #[derive(Drop)]
@@ -53,7 +48,7 @@ struct Passed {
 }
 
 // The state Start, as a walk holds it.
-const START: u64 = 0;
+const START: u64 = State::Start as u64;
 
 // How many bytes are tested for ASCII at a time.
 const BLOCK: usize = 64;
@@ -61,31 +56,28 @@ const BLOCK: usize = 64;
 // How many bytes of a name the server keeps at most.
 const MOST_KEPT: usize = 63;
 
-// Whether s is UTF-8. Each call gets a subslice made here, which is all of s, so that the compiler passes its address and
-// length in registers.
+// Whether s is UTF-8.
 pub fn is_utf8(s: &[u8]) -> bool
     ensures value { result ≡ utf8 s.now }
     ensures variant { (result ≡ true) ↔ Utf8 s.now }
 {
-    let n = s.len();
-    let i = ascii_prefix(&s[..n]);
-    if i == n {
+    let ascii = ascii_prefix(s);
+    if ascii == s.len() {
         return true;
     }
-    walk_from(&s[..n], i, START) == START
+    walk_over(&s[ascii..], START) == START
 }
 
 // Whether s is UTF-8, and if so, how many bytes of it the server keeps as a name: up to the greatest character boundary at or below
 // 63.
-pub fn check_text(s: &[u8]) -> TextCheck
+pub fn check_text(s: &[u8]) -> Option<usize>
     ensures result_value { text_answer result ≡ check_text s.now }
     ensures exact_check { ExactCheck s.now (text_answer result) }
 {
     if !is_utf8(s) {
-        return TextCheck::No;
+        return None;
     }
-    let kept = kept_len(s);
-    TextCheck::Yes { kept }
+    Some(kept_len(s))
 }
 
 // How many bytes of s, which is UTF-8, the server keeps as a name. A place inside a character is where a byte continues one.
@@ -116,7 +108,7 @@ fn is_tail(b: u8) -> bool
 pub fn walk(q: State, s: &[u8]) -> State
     ensures { state_of result ≡ wanted_after (state_of q) s.now }
 {
-    state_of(walk_from(s, 0, code_of(q)))
+    state_of(walk_over(s, u64::from(q)))
 }
 
 // The same walk, which also finds the pairs of colons, from the left without overlap. It begins with a pair open or not, and it
@@ -126,8 +118,7 @@ pub fn walk_colons(q: State, opened: bool, s: &[u8]) -> ColonWalk
     ensures opened_value { result.opened ≡ (colons_after (unwalked opened) s.now).opened }
     ensures end_value { result.end ≡ (colons_after (unwalked opened) s.now).end }
 {
-    let n = s.len();
-    if n == 0 {
+    if s.is_empty() {
         return ColonWalk {
             state: q,
             opened,
@@ -144,10 +135,7 @@ pub fn walk_colons(q: State, opened: bool, s: &[u8]) -> ColonWalk
 fn after_colon(q: State) -> State
     ensures { state_of result ≡ step (state_of q) 0x3A }
 {
-    if code_of(q) == START {
-        return q;
-    }
-    State::Wrong
+    if q == State::Start { q } else { State::Wrong }
 }
 
 // The walk over s from a on. No pair is open there, and the last one ended there, or a is 0.
@@ -156,7 +144,7 @@ fn walk_pairs(q: State, s: &[u8], a: usize) -> ColonWalk
     ensures { Completes s.now a a (state_of q) result }
 {
     let n = s.len();
-    if code_of(q) != START {
+    if q != State::Start {
         return walk_pairs_from(q, s, Passed { at: a, end: a });
     }
     let p = ascii_pairs(s, a);
@@ -206,27 +194,18 @@ fn ascii_pairs(s: &[u8], a: usize) -> Passed
     Passed { at: i, end }
 }
 
-// The rest of this walk. Each call builds the tables on its stack.
+// The rest of this walk. The loop begins where no pair is open, and needs no flag: after a colon it reads the next byte too.
 fn walk_pairs_from(q: State, s: &[u8], p: Passed) -> ColonWalk
     requires { p.at ≤ length s.now }
     ensures { Completes s.now p.at p.end (state_of q) result }
 {
-    walk_pairs_by(&CLASS, &NEXT, q, s, p)
-}
-
-// The same, with the tables.
-fn walk_pairs_by(class: &[u8; 256], next: &[u64; 12], q: State, s: &[u8], p: Passed) -> ColonWalk
-    requires encodes { Encodes class.now next.now }
-    requires at_in_bounds { p.at ≤ length s.now }
-    ensures { Completes s.now p.at p.end (state_of q) result }
-{
     let n = s.len();
-    let mut x = code_of(q);
+    let mut x = u64::from(q);
     let mut i = p.at;
     let mut end = p.end;
     while i < n {
         let c = s[i];
-        x = next_of(class, next, x, c);
+        x = next_of(x, c);
         i += 1;
         if c == b':' {
             if i == n {
@@ -237,7 +216,7 @@ fn walk_pairs_by(class: &[u8; 256], next: &[u64; 12], q: State, s: &[u8], p: Pas
                 };
             }
             let d = s[i];
-            x = next_of(class, next, x, d);
+            x = next_of(x, d);
             i += 1;
             if d == b':' {
                 end = i;
@@ -251,53 +230,27 @@ fn walk_pairs_by(class: &[u8; 256], next: &[u64; 12], q: State, s: &[u8], p: Pas
     }
 }
 
-// What a walk that holds x holds after the byte b: the next state, in the lowest six bits.
-fn next_of(class: &[u8; 256], next: &[u64; 12], x: u64, b: u8) -> u64
-    requires { Encodes class.now next.now }
-    ensures { Follows x b result }
+// The walk over s from the state held as q. A block of ASCII at the start of a character is skipped.
+fn walk_over(s: &[u8], q: u64) -> u64
+    ensures { Reaches s.now q result }
 {
-    let k = class[b as usize] as usize;
-    next[k] >> (x % 64)
-}
-
-// The walk over s from a on, from the state held as q. Each call builds the tables on its stack.
-fn walk_from(s: &[u8], a: usize, q: u64) -> u64
-    requires { a ≤ length s.now }
-    ensures { Reaches s.now a (length s.now) q result }
-{
-    walk_blocks(&CLASS, &NEXT, s, a, q)
-}
-
-// The same, with the tables. A block of ASCII at the start of a character is skipped.
-fn walk_blocks(class: &[u8; 256], next: &[u64; 12], s: &[u8], a: usize, q: u64) -> u64
-    requires encodes { Encodes class.now next.now }
-    requires a_in_bounds { a ≤ length s.now }
-    ensures { Reaches s.now a (length s.now) q result }
-{
-    let n = s.len();
+    let (blocks, rest) = s.as_chunks::<BLOCK>();
     let mut x = q;
-    let mut i = a;
-    while BLOCK <= n - i {
-        let e = i + BLOCK;
-        if x != START || !is_ascii(s, i, e) {
-            x = walk_bytes(class, next, s, i, e, x);
+    for block in blocks {
+        if x != START || !is_ascii(block) {
+            x = walk_bytes(block, x);
         }
-        i = e;
     }
-    walk_bytes(class, next, s, i, n, x)
+    walk_bytes(rest, x)
 }
 
-// The walk over the bytes of s from a up to e.
-fn walk_bytes(class: &[u8; 256], next: &[u64; 12], s: &[u8], a: usize, e: usize, q: u64) -> u64
-    requires encodes { Encodes class.now next.now }
-    requires a_le_e { (a ≤ e) × (e ≤ length s.now) }
-    ensures { Reaches s.now a e q result }
+// The same walk, byte by byte.
+fn walk_bytes(s: &[u8], q: u64) -> u64
+    ensures { Reaches s.now q result }
 {
     let mut x = q;
-    let mut i = a;
-    while i < e {
-        x = next_of(class, next, x, s[i]);
-        i += 1;
+    for b in s {
+        x = next_of(x, *b);
     }
     x % 64
 }
@@ -308,23 +261,18 @@ fn ascii_prefix(s: &[u8]) -> usize
 {
     let n = s.len();
     if n < BLOCK {
-        if is_ascii_short(s) {
-            return n;
-        }
-        return 0;
+        return if is_ascii_short(s) { n } else { 0 };
     }
-    let mut i = 0;
-    while BLOCK <= n - i {
-        let e = i + BLOCK;
-        if !is_ascii(s, i, e) {
-            return i;
+    for k in 0..n / BLOCK {
+        let at = k * BLOCK;
+        if !is_ascii(&s[at..at + BLOCK]) {
+            return at;
         }
-        i = e;
     }
-    if is_ascii(s, n - BLOCK, n) {
+    if is_ascii(&s[n - BLOCK..]) {
         return n;
     }
-    i
+    n - n % BLOCK
 }
 
 // Whether s, which is no longer than a block, is ASCII: from its first and its last bytes, which overlap, so that no loop
@@ -346,7 +294,7 @@ fn is_ascii_short(s: &[u8]) -> bool
     if 4 <= n {
         return high_bits_of_4(s, 0) | high_bits_of_4(s, n - 4) == 0;
     }
-    is_ascii(s, 0, n)
+    is_ascii(s)
 }
 
 // Each of these collects the highest bits of the bytes from a on: 0 only if they are ASCII.
@@ -396,35 +344,22 @@ fn wide(x: u8) -> u64
     x as u64
 }
 
-// Whether the bytes of s from a up to e are ASCII. There is no early exit, so that the compiler can handle many bytes at a
-// time.
-fn is_ascii(s: &[u8], a: usize, e: usize) -> bool
-    requires { (a ≤ e) × (e ≤ length s.now) }
-    ensures { result ≡ true → Ascii s.now a e }
+// Whether s is ASCII. There is no early exit, so that the compiler can handle many bytes at a time.
+fn is_ascii(s: &[u8]) -> bool
+    ensures { result ≡ true → Ascii s.now 0 (length s.now) }
 {
-    let mut bits: u8 = 0;
-    let mut i = a;
-    while i < e {
-        bits |= s[i];
-        i += 1;
+    let mut bits = 0;
+    for b in s {
+        bits |= *b;
     }
     bits < 128
 }
 
-// The state as a walk holds it: the place of its six bits in a row of NEXT.
-fn code_of(q: State) -> u64
-    ensures { result ≡ code (state_of q) }
-{
-    match q {
-        State::Start => 0,
-        State::One => 6,
-        State::Two => 12,
-        State::Three => 18,
-        State::AfterE0 => 24,
-        State::AfterED => 30,
-        State::AfterF0 => 36,
-        State::AfterF4 => 42,
-        State::Wrong => 48,
+impl From<State> for u64 {
+    ghost from_gives = { λ q x. x ≡ code (state_of q) };
+
+    fn from(q: State) -> u64 {
+        q as u64
     }
 }
 

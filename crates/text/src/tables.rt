@@ -1,7 +1,10 @@
+// The tables of the walk, and a step by them.
+ghost use Rattle.text.specs.Private.{Follows};
+
 // The byte classes, sixteen to a line: 0 for 00-7F; the continuation classes 1 for 80-8F, 2 for 90-9F and 3 for A0-BF; the lead
 // classes 4 for C2-DF, 5 for E0, 6 for E1-EC and EE-EF, 7 for ED, 8 for F0, 9 for F1-F3 and 10 for F4; the forbidden class 11
 // for C0, C1 and F5-FF.
-pub const CLASS: [u8; 256] = *b"\
+static CLASS: [u8; 256] = *b"\
     \x00\x00\x00\x00\x00\x00\x00\x00\x00\x00\x00\x00\x00\x00\x00\x00\
     \x00\x00\x00\x00\x00\x00\x00\x00\x00\x00\x00\x00\x00\x00\x00\x00\
     \x00\x00\x00\x00\x00\x00\x00\x00\x00\x00\x00\x00\x00\x00\x00\x00\
@@ -20,7 +23,7 @@ pub const CLASS: [u8; 256] = *b"\
     \x08\x09\x09\x09\x0a\x0b\x0b\x0b\x0b\x0b\x0b\x0b\x0b\x0b\x0b\x0b";
 
 // For each class, where its bytes lead: at the place of each state the next state, six bits each.
-pub const NEXT: [u64; 12] = [
+static NEXT: [u64; 12] = [
     0x30c30c30c30c00,
     0x303301b0306030,
     0x30c0c1b0306030,
@@ -34,3 +37,10 @@ pub const NEXT: [u64; 12] = [
     0x30c30c30c30c2a,
     0x30c30c30c30c30,
 ];
+
+// What a walk that holds x holds after the byte b: the next state, in the lowest six bits.
+pub fn next_of(x: u64, b: u8) -> u64
+    ensures { Follows x b result }
+{
+    NEXT[CLASS[b as usize] as usize] >> (x % 64)
+}

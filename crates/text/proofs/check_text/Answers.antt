@@ -13,5 +13,5 @@ returns-then-not-is_utf8 c =
 pub returns : goal.returns
 returns c =
     let s = c.args.s.now in
-    let told = told_both s _ (ap text_kept c.kept_len-kept.ensures ∙ sym (kept_answer s (sym c.is_utf8.ensures.value ∙ c.if-not-is_utf8.false))) in
+    let told = told_both s _ (ap text_kept c.kept_len.ensures ∙ sym (kept_answer s (sym c.is_utf8.ensures.value ∙ c.if-not-is_utf8.false))) in
     record { result_value = told.0; exact_check = told.1 }

@@ -1,21 +1,13 @@
--- The low six bits of x are the code of the state after the first i bytes.
-use Rattle.std.proofs.Common.{◌≡◌, ℕ, ◌%◌, take, ap, ◌∙◌, arith, rules}
-use Rattle.text.specs.Walk.{wanted_after}
-use Rattle.text.proofs.Codes.{code_low, walked}
+-- The low six bits of x are the code of the state after the bytes so far.
+use Rattle.std.proofs.Common.{ℕ, ◌%◌, ap, ◌∙◌, arith}
+use Rattle.text.proofs.Codes.{code_low, walked, ended}
 use Rattle.text.proofs.walk_bytes.Goals as goal
 
-pub loop-i-init : goal.loop-i-init
-loop-i-init c = (search rules, λ p e. ap (λ (n : ℕ). n % 64) e ∙ code_low (wanted_after p (take c.args.a c.args.s.now)))
+pub loop-b-init : goal.loop-b-init
+loop-b-init c = λ p e. ap (λ (n : ℕ). n % 64) e ∙ code_low p
 
-pub next_of-x-requires : goal.next_of-x-requires
-next_of-x-requires c = c.requires.encodes
-
-pub loop-i-preserved : goal.loop-i-preserved
-loop-i-preserved c =
-    let loop = c.loop-i in
-    (search rules, λ p e. walked p c.args.s.now loop.i loop.x _ (search rules) c.next_of-x.ensures (loop.invariant.1 p e))
+pub loop-b-preserved : goal.loop-b-preserved
+loop-b-preserved c = λ p e. walked p _ _ _ _ c.loop-b-test.true c.next_of-x.ensures (c.loop-b.invariant p e)
 
 pub returns : goal.returns
-returns c =
-    let at : c.loop-i.i ≡ c.args.e = omega arith in
-    λ p e. rw (← at) (c.loop-i.invariant.1 p e)
+returns c = λ p e. ended p c.args.s.now c.loop-b.b-index c.loop-b.x (omega arith) (c.loop-b.invariant p e)

@@ -1,5 +1,5 @@
 -- A pair that is open is closed by the first byte, or it makes no difference that it is open.
-use Rattle.std.proofs.Common.{◌≡◌, ℕ, true, false, length, sym, refl, ap, ◌∙◌, rules}
+use Rattle.std.proofs.Common.{◌≡◌, ℕ, true, false, length, sym, refl, ap, ◌∙◌, eqb-true, rules}
 use Rattle.text.specs.declared.ColonWalk.{ColonWalk}
 use Rattle.text.specs.Walk.{step}
 use Rattle.text.specs.States.{state_of}
@@ -13,9 +13,9 @@ use Rattle.text.proofs.walk_colons.Goals.{else-opened-via-then-opened+else-s-eq5
 told : (p : Colons) (r : ColonWalk) (n : ℕ) → p ≡ record { opened = r.opened; end = r.end; seen = n } → (r.opened ≡ p.opened) × (r.end ≡ p.end)
 told p r n e = (sym (ap (λ (x : Colons). x.opened) e), sym (ap (λ (x : Colons). x.end) e))
 
-pub returns-then-n-eq0 : goal.returns-then-n-eq0
-returns-then-n-eq0 c =
-    let e = no_bytes c.args.s.now c.if-n-eq0.true in
+pub returns-then-is_empty : goal.returns-then-is_empty
+returns-then-is_empty c =
+    let e = no_bytes c.args.s.now (eqb-true _ _ (sym c.if-is_empty.ensures)) in
     record { state_value = rw e; opened_value = rw e; end_value = rw e }
 
 pub returns-then-s-eq58 : goal.returns-then-s-eq58

@@ -4,6 +4,7 @@ use lib.Seq.{take-length}
 use Rattle.text.specs.declared.ColonWalk.{ColonWalk}
 use Rattle.text.specs.Walk.{State}
 use Rattle.text.specs.Private.{code, Ascii, StaysClosed, Completes}
+use Rattle.text.proofs.Codes.{at_start}
 use Rattle.text.proofs.Blocks.{ascii_more, ascii_stays}
 use Rattle.text.proofs.Colons.{closed_end, last_byte}
 use Rattle.text.proofs.walk_pairs.Goals as goal
@@ -21,7 +22,7 @@ returns-then-at-n c =
     let s = c.args.s.now in
     let passed = c.ascii_pairs-p in
     let record { a_le_at = h; ascii = f; stays_closed = g } = passed.ensures in
-    let z = sym c.code_of.ensures ∙ c.if-code_of-ne-START.false in
+    let z = at_start c.args.q (c.if-ne.ensures) in
     let n : passed.result.at ≡ length s = search rules in
     onward h.0 h.1 f g z (record {
       states = λ p k. rw (n, take-length s) at k;
@@ -33,7 +34,7 @@ returns-then-s-at-lt128 c =
     let s = c.args.s.now in
     let passed = c.ascii_pairs-p in
     let record { a_le_at = h; ascii = f; stays_closed = g } = passed.ensures in
-    let z = sym c.code_of.ensures ∙ c.if-code_of-ne-START.false in
+    let z = at_start c.args.q (c.if-ne.ensures) in
     let at = passed.result.at in
     let n : at + 1 ≡ length s = search rules in
     onward h.0 h.1 f g z (record {
@@ -44,5 +45,5 @@ returns-then-s-at-lt128 c =
 pub returns : goal.returns
 returns c =
     let record { a_le_at = h; ascii = f; stays_closed = g } = c.ascii_pairs-p.ensures in
-    let z = sym c.code_of.ensures ∙ c.if-code_of-ne-START.false in
+    let z = at_start c.args.q (c.if-ne.ensures) in
     onward h.0 h.1 f g z c.walk_pairs_from-2.ensures

@@ -2,7 +2,7 @@
 use Rattle.std.proofs.Common.{◌≡◌, ◌-◌, ◌%◌, ◌≤◌, length, take}
 use Rattle.text.specs.Private.{code, StaysClosed}
 use Rattle.text.specs.Walk.{State, wanted_after}
-use Rattle.text.proofs.walk_pairs_by.Given as goal
+use Rattle.text.proofs.walk_pairs_from.Given as goal
 
 abbrev pub invariant-loop-i : goal.invariant-loop-i
 invariant-loop-i l =

@@ -56,13 +56,16 @@ ascii_stays s p q a e h l f z w =
 pub ascii_utf8 : (s : List ℕ) → Ascii s 0 (length s) → true ≡ utf8 s
 ascii_utf8 s f = sym (ap accepting (ascii_over s f))
 
--- The answer, from a walk over what follows ASCII
+-- The answer, from a walk over the whole text, and from one over what follows ASCII
+pub finished : (s : List ℕ) (r : ℕ) → Reaches s 0 r → eqb r 0 ≡ utf8 s
+finished s r w = rw (w start refl) (code_accepting (wanted_after start s))
+
 pub answered : (s : List ℕ) (i r : ℕ) → i ≤ length s → Ascii s 0 i → Reaches (drop i s) 0 r → eqb r 0 ≡ utf8 s
 answered s i r h f w =
     let begun : wanted_after start (take i s) ≡ start = ascii_runs s start 0 i zero-le h f refl in
     let whole : wanted_after start s ≡ wanted_after start (drop i s) =
     ap (λ (l : List ℕ). wanted_after start l) (sym (take-append-drop i s)) ∙ wanted_append start (take i s) (drop i s) ∙ ap (λ (q : State). wanted_after q (drop i s)) begun in
-    rw (w start refl, whole) (code_accepting (wanted_after start (drop i s)))
+    finished (drop i s) r w ∙ ap accepting (sym whole)
 
 -- The bytes of a part
 pub ascii_part : (s : List ℕ) (a n : ℕ) → Ascii (take n (drop a s)) 0 (length (take n (drop a s))) → a + n ≤ length s → Ascii s a (a + n)

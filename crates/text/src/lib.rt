@@ -61,11 +61,11 @@ pub fn is_utf8(s: &[u8]) -> bool
     ensures value { result ≡ utf8 s.now }
     ensures variant { (result ≡ true) ↔ Utf8 s.now }
 {
-    let ascii = ascii_prefix(s);
-    if ascii == s.len() {
-        return true;
+    if s.len() < BLOCK {
+        return is_ascii_short(s) || walk_bytes(s, START) == START;
     }
-    walk_over(&s[ascii..], START) == START
+    let ascii = ascii_prefix(s);
+    ascii == s.len() || walk_over(&s[ascii..], START) == START
 }
 
 // Whether s is UTF-8, and if so, how many bytes of it the server keeps as a name: up to the greatest character boundary at or below
@@ -257,12 +257,10 @@ fn walk_bytes(s: &[u8], q: u64) -> u64
 
 // How many bytes at the start of s are ASCII, as far as whole blocks show: all of them if s is ASCII.
 fn ascii_prefix(s: &[u8]) -> usize
+    requires { 64 ≤ length s.now }
     ensures { (result ≤ length s.now) × Ascii s.now 0 result }
 {
     let n = s.len();
-    if n < BLOCK {
-        return if is_ascii_short(s) { n } else { 0 };
-    }
     for k in 0..n / BLOCK {
         let at = k * BLOCK;
         if !is_ascii(&s[at..at + BLOCK]) {

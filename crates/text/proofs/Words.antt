@@ -1,8 +1,14 @@
 -- Bytes as one number, and its highest bits.
 use Rattle.std.proofs.Common.{◌≡◌, ℕ, ◌+◌, ◌-◌, ◌*◌, ◌^◌, ◌<◌, ◌≤◌, Bool, true, false, ltb, List, get_or, refl, ap, mul-le-mul_left, arith, pow_pos, pow-add, ltb-false, ltb-true}
 use lib.Bits.{bit_and, bit_or, and_block, and_self, or_add_and, and_le_l, and_le_r}
-use Rattle.text.specs.Private.{Ascii, Packs}
+use Rattle.std.specs.Int.{w32, from_le_bytes}
+use Rattle.text.specs.Private.{Ascii}
 use Rattle.text.proofs.Blocks.{ascii_join}
+
+-- r, a number of `bits` bits, has the bytes of s from a up to e: if it has no bit of the mask, they are ASCII
+pub record Packs (s : List ℕ) (a e bits mask r : ℕ) : Type 0 where
+  pub fits : r < 2 ^ bits
+  pub ascii : bit_and r mask ≡ 0 → Ascii s a e
 
 -- A byte without its highest bit
 low_byte : (b : ℕ) → bit_and b 128 ≡ 0 → b < 256 → b < 128
@@ -33,6 +39,13 @@ above k {s} {a} {m} {e} {j} {h} {g} {x} {y} l p q =
       fits = rw (pow-add 2 k j) (omega (arith, p.fits, mul-le-mul_left (2 ^ k) q.fits));
       ascii = λ z. ascii_join s a m m e (omega arith) (p.ascii (omega (arith, b, z))) (q.ascii (omega (arith, b, z, mul-le-mul_left (bit_and y g) (pow_pos k))));
     }
+
+-- Four bytes
+pub four_bytes : (w : List ℕ) → ((i : ℕ) → i < 4 → get_or w i 0 < 256) → Packs w 0 4 32 0x8080_8080 (from_le_bytes w32 w)
+four_bytes w f =
+    let at : (i : ℕ) → i < 4 → Packs w i (i + 1) 8 128 (get_or w i 0) = λ i h. byte (omega arith) (refl, f i h) in
+    let r : from_le_bytes w32 w ≡ get_or w 0 0 + 2 ^ 8 * get_or w 1 0 + 2 ^ 16 * get_or w 2 0 + 2 ^ 24 * get_or w 3 0 = omega arith in
+    rw r (above 24 (omega arith) (above 16 (omega arith) (above 8 (omega arith) (at 0 (omega arith)) (at 1 (omega arith))) (at 2 (omega arith))) (at 3 (omega arith)))
 
 -- No number is above the bitwise or of itself and another
 pub or_l : (x y : ℕ) → x ≤ bit_or x y

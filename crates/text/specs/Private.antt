@@ -1,5 +1,5 @@
 -- Definitions for the contracts of private functions; no public contract cites them.
-use Rattle.std.specs.Prelude.{◌≡◌, ℕ, ◌/◌, ◌%◌, ◌^◌, ◌<◌, ◌≤◌, Bool, false, List, length, take, bit_and, slice_index}
+use Rattle.std.specs.Prelude.{◌≡◌, ℕ, ◌/◌, ◌%◌, ◌^◌, ◌<◌, ◌≤◌, Bool, false, List, length, take, slice_index}
 use Rattle.text.specs.Walk.{State, start, tail_1, tail_2, tail_3, after_e0, after_ed, after_f0, after_f4, failed, step, wanted_after}
 use Rattle.text.specs.declared.ColonWalk.{ColonWalk}
 use Rattle.text.specs.States.{state_of}
@@ -33,11 +33,6 @@ Reaches s x r = (p : State) → x ≡ code p → r ≡ code (wanted_after p s)
 -- The bytes of s from a up to e are below 128
 abbrev pub Ascii : List ℕ → ℕ → ℕ → Type 0
 Ascii s a e = (k : ℕ) → a ≤ k → k < e → slice_index s k < 128
-
--- r, a number of `bits` bits, has the bytes of s from a up to e: if it has no bit of the mask, they are ASCII
-pub record Packs (s : List ℕ) (a e bits mask r : ℕ) : Type 0 where
-  pub fits : r < 2 ^ bits
-  pub ascii : bit_and r mask ≡ 0 → Ascii s a e
 
 -- q is the state whose code is x, if any state has that code
 abbrev pub Decodes : ℕ → State → Type 0

@@ -2,13 +2,13 @@
 // the server, PostgreSQL, keeps. And a walk that also finds the pairs of colons in a text.
 #![tactic(auto)]
 
-ghost use Rattle.std.specs.Prelude.{◌≡◌, ◌+◌, ◌<◌, ◌≤◌, true, ◌↔◌, length};
+ghost use Rattle.std.specs.Prelude.{◌≡◌, ◌*◌, ◌%◌, ◌<◌, ◌≤◌, true, ◌↔◌, length};
 ghost use Rattle.text.specs.Rfc3629.{tail, Utf8};
 ghost use Rattle.text.specs.Walk.{within, step, wanted_after, utf8};
 ghost use Rattle.text.specs.Kept.{kept_length, check_text, ExactCheck, text_answer};
 ghost use Rattle.text.specs.States.{state_of};
 ghost use Rattle.text.specs.Colons.{unwalked, colons_after};
-ghost use Rattle.text.specs.Private.{code, Reaches, Decodes, Ascii, Packs, StaysClosed, Completes};
+ghost use Rattle.text.specs.Private.{code, Reaches, Decodes, Ascii, StaysClosed, Completes};
 
 mod tables;
 
@@ -273,73 +273,43 @@ fn ascii_prefix(s: &[u8]) -> usize
     n - n % BLOCK
 }
 
-// Whether s, which is no longer than a block, is ASCII: from its first and its last bytes, which overlap, so that no loop
-// depends on the length of s.
+// Whether s, which is no longer than a block, is ASCII. No loop depends on its length.
 fn is_ascii_short(s: &[u8]) -> bool
     requires { length s.now ≤ 64 }
     ensures { result ≡ true → Ascii s.now 0 (length s.now) }
 {
-    let n = s.len();
-    if 32 <= n {
-        return high_bits_of_32(s, 0) | high_bits_of_32(s, n - 32) == 0;
+    match s.len() {
+        32.. => is_ascii_at_ends(s, 32),
+        16.. => is_ascii_at_ends(s, 16),
+        8.. => is_ascii_at_ends(s, 8),
+        4.. => is_ascii_at_ends(s, 4),
+        _ => is_ascii(s),
     }
-    if 16 <= n {
-        return high_bits_of_16(s, 0) | high_bits_of_16(s, n - 16) == 0;
+}
+
+// Whether the first k and the last k bytes of s are ASCII. They are all of s.
+#[inline(always)]
+fn is_ascii_at_ends(s: &[u8], k: usize) -> bool
+    requires k_le_length { k ≤ length s.now }
+    requires length_le { length s.now ≤ 2 * k }
+    requires words { k % 4 ≡ 0 }
+    ensures { result ≡ true → Ascii s.now 0 (length s.now) }
+{
+    high_bits(&s[..k]) | high_bits(&s[s.len() - k..]) == 0
+}
+
+// The highest bits of the bytes of s, four bytes at a time: 0 only if they are ASCII.
+#[inline(always)]
+fn high_bits(s: &[u8]) -> u32
+    requires { length s.now % 4 ≡ 0 }
+    ensures { result ≡ 0 → Ascii s.now 0 (length s.now) }
+{
+    let (words, _) = s.as_chunks::<4>();
+    let mut bits = 0;
+    for word in words {
+        bits |= u32::from_le_bytes(*word) & 0x8080_8080;
     }
-    if 8 <= n {
-        return high_bits(s, 0) | high_bits(s, n - 8) == 0;
-    }
-    if 4 <= n {
-        return high_bits_of_4(s, 0) | high_bits_of_4(s, n - 4) == 0;
-    }
-    is_ascii(s)
-}
-
-// Each of these collects the highest bits of the bytes from a on: 0 only if they are ASCII.
-fn high_bits_of_32(s: &[u8], a: usize) -> u64
-    requires { a + 32 ≤ length s.now }
-    ensures { result ≡ 0 → Ascii s.now a (a + 32) }
-{
-    high_bits_of_16(s, a) | high_bits_of_16(s, a + 16)
-}
-
-fn high_bits_of_16(s: &[u8], a: usize) -> u64
-    requires { a + 16 ≤ length s.now }
-    ensures { result ≡ 0 → Ascii s.now a (a + 16) }
-{
-    high_bits(s, a) | high_bits(s, a + 8)
-}
-
-fn high_bits(s: &[u8], a: usize) -> u64
-    requires { a + 8 ≤ length s.now }
-    ensures { result ≡ 0 → Ascii s.now a (a + 8) }
-{
-    let e = a + 4;
-    (word(s, a) + 0x1_0000_0000 * word(s, e)) & 0x8080_8080_8080_8080
-}
-
-fn high_bits_of_4(s: &[u8], a: usize) -> u64
-    requires { a + 4 ≤ length s.now }
-    ensures { result ≡ 0 → Ascii s.now a (a + 4) }
-{
-    word(s, a) & 0x8080_8080
-}
-
-// The four bytes from a on as one number. The compiler loads them at once, and likewise the eight of two such numbers.
-fn word(s: &[u8], a: usize) -> u64
-    requires { a + 4 ≤ length s.now }
-    ensures { Packs s.now a (a + 4) 32 0x8080_8080 result }
-{
-    let b = a + 1;
-    let c = a + 2;
-    let d = a + 3;
-    wide(s[a]) + 0x100 * wide(s[b]) + 0x1_0000 * wide(s[c]) + 0x100_0000 * wide(s[d])
-}
-
-fn wide(x: u8) -> u64
-    ensures { (result ≡ x) × (result < 256) }
-{
-    x as u64
+    bits
 }
 
 // Whether s is ASCII. There is no early exit, so that the compiler can handle many bytes at a time.

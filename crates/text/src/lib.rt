@@ -230,7 +230,9 @@ fn walk_pairs_from(q: State, s: &[u8], p: Passed) -> ColonWalk
     }
 }
 
-// The walk over s from the state held as q. A block of ASCII at the start of a character is skipped.
+// The walk over s from the state held as q. A block of ASCII at the start of a character is skipped. The call is not inlined, so
+// that a text of ASCII saves no registers for it.
+#[inline(never)]
 fn walk_over(s: &[u8], q: u64) -> u64
     ensures { Reaches s.now q result }
 {
@@ -278,13 +280,20 @@ fn is_ascii_short(s: &[u8]) -> bool
     requires { length s.now ≤ 64 }
     ensures { result ≡ true → Ascii s.now 0 (length s.now) }
 {
-    match s.len() {
-        32.. => is_ascii_at_ends(s, 32),
-        16.. => is_ascii_at_ends(s, 16),
-        8.. => is_ascii_at_ends(s, 8),
-        4.. => is_ascii_at_ends(s, 4),
-        _ => is_ascii(s),
+    let n = s.len();
+    if 32 <= n {
+        return is_ascii_at_ends(s, 32);
     }
+    if 16 <= n {
+        return is_ascii_at_ends(s, 16);
+    }
+    if 8 <= n {
+        return is_ascii_at_ends(s, 8);
+    }
+    if 4 <= n {
+        return is_ascii_at_ends(s, 4);
+    }
+    is_ascii(s)
 }
 
 // Whether the first k and the last k bytes of s are ASCII. They are all of s.

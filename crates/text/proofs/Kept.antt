@@ -163,17 +163,9 @@ unfolding kept_length
 kept_up_to t = refl
 
 module _ (t : List ℕ) (k : ℕ) (u : utf8 t ≡ true) (h : k < length t) (r : Bool) (e : r ≡ within tail (get_or t k 0)) where
-  -- The start of a text is a boundary, so a byte that continues a character is not the first
-  pub not_first : r ≡ true → 0 < k
-  not_first y = go k refl
-    where
-      go : (n : ℕ) → k ≡ n → 0 < n
-      go zero z = absurd (false≢true (ap not (sym y ∙ e) ∙ sym (shown t k u h) ∙ ap (is_boundary t) z ∙ boundary_tested t 0 (record { inside = zero-le; before = none })))
-      go (suc n) z = omega arith
-
-  pub lower : r ≡ true → boundary_up_to t k ≡ boundary_up_to t (k - 1)
-  lower y =
-      let z : k ≡ suc (k - 1) = omega (arith, not_first y) in
+  pub lower : 0 < k → r ≡ true → boundary_up_to t k ≡ boundary_up_to t (k - 1)
+  lower n y =
+      let z : k ≡ suc (k - 1) = omega arith in
       let b : is_boundary t (suc (k - 1)) ≡ false = rw z at (shown t k u h ∙ ap not (sym e ∙ y)) in
       ap (boundary_up_to t) z ∙ boundary_below t (k - 1) b
 

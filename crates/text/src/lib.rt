@@ -39,7 +39,6 @@ pub struct ColonWalk {
     pub end: usize,
 }
 
-
 // How far a walk has come that has no pair open, and where the last pair ended.
 #[derive(Drop)]
 struct Passed {
@@ -89,11 +88,12 @@ fn kept_len(s: &[u8]) -> usize
     if n <= MOST_KEPT {
         return n;
     }
-    let mut k = MOST_KEPT;
-    while is_tail(s[k]) {
-        k -= 1;
+    for k in (1..=MOST_KEPT).rev() {
+        if !is_tail(s[k]) {
+            return k;
+        }
     }
-    k
+    0
 }
 
 // Whether a byte continues a character.

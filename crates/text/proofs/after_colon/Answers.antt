@@ -1,5 +1,5 @@
 -- Of the nine states, start alone has a transition for a colon.
-use Rattle.std.proofs.Common.{◌≡◌, true, false, sym, refl, ◌∙◌}
+use Rattle.std.proofs.Common.{◌≡◌, true, false, refl, ◌∙◌}
 use Rattle.text.specs.Walk.{State, start, tail_1, tail_2, tail_3, after_e0, after_ed, after_f0, after_f4, failed, step, accepting}
 use Rattle.text.specs.States.{state_of}
 use Rattle.text.proofs.Codes.{is_start}

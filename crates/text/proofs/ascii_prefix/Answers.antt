@@ -1,5 +1,5 @@
 -- The blocks so far are ASCII; the last one may overlap them.
-use Rattle.std.proofs.Common.{◌≡◌, ◌+◌, ◌-◌, ◌*◌, ◌%◌, length, arith}
+use Rattle.std.proofs.Common.{◌≡◌, ◌+◌, ◌-◌, ◌*◌, length, arith}
 use Rattle.text.proofs.Blocks.{ascii_join, ascii_part}
 use Rattle.text.proofs.ascii_prefix.Goals as goal
 

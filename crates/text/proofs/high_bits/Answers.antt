@@ -1,5 +1,5 @@
 -- The bytes of the words so far are ASCII if no bit is collected.
-use Rattle.std.proofs.Common.{◌≡◌, ℕ, ◌+◌, ◌*◌, ◌/◌, ◌<◌, List, [], length, get_or, take, drop, length-drop, ◌∙◌, arith}
+use Rattle.std.proofs.Common.{◌≡◌, ℕ, ◌+◌, ◌*◌, ◌/◌, ◌<◌, List, [], length, get_or, take, drop, length-drop, arith}
 use Rattle.std.proofs.lemmas.List.{get_or-take, get_or-drop}
 use lib.Bits.{bit_and}
 use lib.Seq.{length-take-le}

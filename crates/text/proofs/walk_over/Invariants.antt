@@ -1,5 +1,5 @@
 -- x is the code of the state after the blocks so far, whether a block was walked or skipped.
-use Rattle.std.proofs.Common.{◌≡◌, ◌*◌, take}
+use Rattle.std.proofs.Common.{◌*◌, take}
 use Rattle.text.specs.Private.{Reaches}
 use Rattle.text.proofs.walk_over.Given as goal
 

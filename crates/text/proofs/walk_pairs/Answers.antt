@@ -1,5 +1,5 @@
 -- Over ASCII the state ascii_stays the same; where a byte is left, or all that is not ASCII, the walk goes on from there.
-use Rattle.std.proofs.Common.{◌≡◌, ℕ, ◌+◌, ◌≤◌, List, length, sym, ◌∙◌, arith, rules}
+use Rattle.std.proofs.Common.{◌≡◌, ℕ, ◌+◌, ◌≤◌, List, length, arith, rules}
 use lib.Seq.{take-length}
 use Rattle.text.specs.declared.ColonWalk.{ColonWalk}
 use Rattle.text.specs.Walk.{State}

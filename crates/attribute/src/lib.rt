@@ -1,148 +1,99 @@
 // The parts of entities that contain no type: positioning refs, to-SQL, the attributes of functions.
 #![tactic(auto)]
 
-ghost use Rattle.std.specs.Prelude.{◌≡◌};
 ghost use Rattle.layout.specs.Entities.{PositioningRef, PositioningRefList, ToSqlConfig, ExternArg, ExternArgList, SearchPath, StrList};
 ghost use Rattle.layout.specs.Entities.{Operator, OptionOperator, Cast, OptionCast};
-ghost use Rattle.leaf.specs.State.{read_state};
-ghost use Rattle.leaf.specs.Run.{run};
+ghost use Rattle.pass.specs.Pass.{Runs};
 
-use leaf::Cursor;
+use pass::Pass;
+use table::RefusalKind;
 
-pub fn read_positioning_ref(c: Cursor, s: &[u8], t: &mut [u32]) -> Cursor
-    ensures { read_state result t.new ≡ run PositioningRef s.now (read_state c t.old) }
+pub fn positioning_ref<P: Pass>(p: &mut P)
+    ensures { Runs P.meaning PositioningRef p.old p.new }
 {
-    let at = c.at;
-    let c = c.read_u8(s, t);
-    let tag = c.value;
-    match tag {
-        layout::POSITIONING_REF_FULL_PATH..=layout::POSITIONING_REF_NAME => c.read_str(s, t),
-        _ => c.refused(9, at),
+    let begin = p.place();
+    match p.u8() {
+        layout::POSITIONING_REF_FULL_PATH..=layout::POSITIONING_REF_NAME => p.str(),
+        _ => p.refuse(RefusalKind::UnknownTag, begin),
     }
 }
 
-pub fn read_positioning_ref_list(c: Cursor, s: &[u8], t: &mut [u32]) -> Cursor
-    ensures { read_state result t.new ≡ run PositioningRefList s.now (read_state c t.old) }
+pub fn positioning_ref_list<P: Pass>(p: &mut P)
+    ensures { Runs P.meaning PositioningRefList p.old p.new }
 {
-    let mut c = c.read_count(s, t);
-    let count = c.value;
-    let mut i: u32 = 0;
-    while i < count {
-        if c.refusal != 0 {
-            return c;
-        }
-        c = read_positioning_ref(c, s, t);
-        i += 1;
-    }
-    c
+    pass::list(p, positioning_ref::<P>)
 }
 
-pub fn read_to_sql_config(c: Cursor, s: &[u8], t: &mut [u32]) -> Cursor
-    ensures { read_state result t.new ≡ run ToSqlConfig s.now (read_state c t.old) }
+pub fn to_sql_config<P: Pass>(p: &mut P)
+    ensures { Runs P.meaning ToSqlConfig p.old p.new }
 {
-    let c = c.read_bool(s, t); // enabled
-    c.read_option_str(s, t) // content
+    p.bool(); // enabled
+    pass::option_str(p) // content
 }
 
 // A function's attribute.
-pub fn read_extern_arg(c: Cursor, s: &[u8], t: &mut [u32]) -> Cursor
-    ensures { read_state result t.new ≡ run ExternArg s.now (read_state c t.old) }
+pub fn extern_arg<P: Pass>(p: &mut P)
+    ensures { Runs P.meaning ExternArg p.old p.new }
 {
-    let at = c.at;
-    let c = c.read_u8(s, t);
-    let tag = c.value;
-    match tag {
-        layout::EXTERN_ARG_CREATE_OR_REPLACE..=layout::EXTERN_ARG_PARALLEL_RESTRICTED => c,
-        layout::EXTERN_ARG_SHOULD_PANIC..=layout::EXTERN_ARG_SCHEMA => c.read_str(s, t),
-        layout::EXTERN_ARG_SUPPORT => read_positioning_ref(c, s, t),
-        layout::EXTERN_ARG_NAME..=layout::EXTERN_ARG_COST => c.read_str(s, t),
-        layout::EXTERN_ARG_REQUIRES => read_positioning_ref_list(c.copy(), s, t),
-        _ => c.refused(9, at),
+    let begin = p.place();
+    match p.u8() {
+        layout::EXTERN_ARG_CREATE_OR_REPLACE..=layout::EXTERN_ARG_PARALLEL_RESTRICTED => {}
+        layout::EXTERN_ARG_SHOULD_PANIC..=layout::EXTERN_ARG_SCHEMA => p.str(),
+        layout::EXTERN_ARG_SUPPORT => positioning_ref(p),
+        layout::EXTERN_ARG_NAME..=layout::EXTERN_ARG_COST => p.str(),
+        layout::EXTERN_ARG_REQUIRES => positioning_ref_list(p),
+        _ => p.refuse(RefusalKind::UnknownTag, begin),
     }
 }
 
-pub fn read_extern_arg_list(c: Cursor, s: &[u8], t: &mut [u32]) -> Cursor
-    ensures { read_state result t.new ≡ run ExternArgList s.now (read_state c t.old) }
+pub fn extern_arg_list<P: Pass>(p: &mut P)
+    ensures { Runs P.meaning ExternArgList p.old p.new }
 {
-    let mut c = c.read_count(s, t);
-    let count = c.value;
-    let mut i: u32 = 0;
-    while i < count {
-        if c.refusal != 0 {
-            return c;
-        }
-        c = read_extern_arg(c, s, t);
-        i += 1;
-    }
-    c
+    pass::list(p, extern_arg::<P>)
 }
 
-pub fn read_search_path(c: Cursor, s: &[u8], t: &mut [u32]) -> Cursor
-    ensures { read_state result t.new ≡ run SearchPath s.now (read_state c t.old) }
+pub fn search_path<P: Pass>(p: &mut P)
+    ensures { Runs P.meaning SearchPath p.old p.new }
 {
-    let c = c.read_bool(s, t);
-    if c.value != 0 {
-        return read_str_list(c.copy(), s, t);
-    }
-    c
+    pass::option(p, str_list::<P>)
 }
 
-pub fn read_str_list(c: Cursor, s: &[u8], t: &mut [u32]) -> Cursor
-    ensures { read_state result t.new ≡ run StrList s.now (read_state c t.old) }
+pub fn str_list<P: Pass>(p: &mut P)
+    ensures { Runs P.meaning StrList p.old p.new }
 {
-    let mut c = c.read_count(s, t);
-    let count = c.value;
-    let mut i: u32 = 0;
-    while i < count {
-        if c.refusal != 0 {
-            return c;
-        }
-        c = c.read_str(s, t);
-        i += 1;
-    }
-    c
+    pass::list(p, P::str)
 }
 
-pub fn read_operator(c: Cursor, s: &[u8], t: &mut [u32]) -> Cursor
-    ensures { read_state result t.new ≡ run Operator s.now (read_state c t.old) }
+pub fn operator<P: Pass>(p: &mut P)
+    ensures { Runs P.meaning Operator p.old p.new }
 {
-    let c = c.read_option_str(s, t); // opname
-    let c = c.read_option_str(s, t); // commutator
-    let c = c.read_option_str(s, t); // negator
-    let c = c.read_option_str(s, t); // restrict
-    let c = c.read_option_str(s, t); // join
-    let c = c.read_bool(s, t); // hashes
-    c.read_bool(s, t) // merges
+    pass::option_str(p); // opname
+    pass::option_str(p); // commutator
+    pass::option_str(p); // negator
+    pass::option_str(p); // restrict
+    pass::option_str(p); // join
+    p.bool(); // hashes
+    p.bool(); // merges
 }
 
-pub fn read_option_operator(c: Cursor, s: &[u8], t: &mut [u32]) -> Cursor
-    ensures { read_state result t.new ≡ run OptionOperator s.now (read_state c t.old) }
+pub fn option_operator<P: Pass>(p: &mut P)
+    ensures { Runs P.meaning OptionOperator p.old p.new }
 {
-    let c = c.read_bool(s, t);
-    if c.value != 0 {
-        return read_operator(c, s, t);
-    }
-    c
+    pass::option(p, operator::<P>)
 }
 
-pub fn read_cast(c: Cursor, s: &[u8], t: &mut [u32]) -> Cursor
-    ensures { read_state result t.new ≡ run Cast s.now (read_state c t.old) }
+pub fn cast<P: Pass>(p: &mut P)
+    ensures { Runs P.meaning Cast p.old p.new }
 {
-    let at = c.at;
-    let c = c.read_u8(s, t);
-    let tag = c.value;
-    match tag {
-        layout::OPERATOR_CAST_DEFAULT..=layout::OPERATOR_CAST_IMPLICIT => c,
-        _ => c.refused(9, at),
+    let begin = p.place();
+    match p.u8() {
+        layout::OPERATOR_CAST_DEFAULT..=layout::OPERATOR_CAST_IMPLICIT => {}
+        _ => p.refuse(RefusalKind::UnknownTag, begin),
     }
 }
 
-pub fn read_option_cast(c: Cursor, s: &[u8], t: &mut [u32]) -> Cursor
-    ensures { read_state result t.new ≡ run OptionCast s.now (read_state c t.old) }
+pub fn option_cast<P: Pass>(p: &mut P)
+    ensures { Runs P.meaning OptionCast p.old p.new }
 {
-    let c = c.read_bool(s, t);
-    if c.value != 0 {
-        return read_cast(c, s, t);
-    }
-    c
+    pass::option(p, cast::<P>)
 }

@@ -1,1 +1,1 @@
-pub mod Result
+mod Result

@@ -1,87 +1,19 @@
--- The result of a declaration: the verdict on its leaves from its first two bytes.
-use Prim.Native.Nat.{ℕ, ◌+◌, ◌≤◌}
-use native.Mathlib.Omega.{arith}
-use mathlib.Core.Bool.{Bool, true, false}
-use mathlib.Core.List.{List, [], ◌∷◌}
+-- The verdict on a declaration's result, by its first two tags.
+use Prim.Native.Nat.{ℕ}
 use mathlib.Core.Logic.{◌≢◌}
-use mathlib.Core.Path.{◌≡◌, refl, sym, ap, ◌∙◌}
-use lib.ListN.{length, get_or}
-use borrow.Author.Tests.{ne_eqb, leb-true}
-use Rattle.layout.specs.Layout.{Leaf, Tag, plain, Verdict, fine, wrong, unknown_tag, error_result, nothing}
-use Rattle.layout.specs.Forms.{Tags, known, follows, tags}
-use Rattle.layout.specs.Entities.{SqlMapping, sql_mappings, ArgumentSql, argument_results, DeclaredSql, as_or_numeric, result_verdict}
-use Rattle.layout.specs.Reading.{Outcome, ok, refuse, ◌>>=◌, need, judged, enough, read}
-use Rattle.layout.specs.Machine.{verdict_on}
-use Rattle.layout.proofs.Equations.{after, read_nothing, read_case}
-use Rattle.leaf.specs.State.{ReadState}
-use Rattle.leaf.specs.Run.{reader, run}
-use Rattle.layout.proofs.Forms.{check_law}
-use Rattle.leaf.proofs.Still.{Refused, pass_refused}
-use Rattle.leaf.proofs.Reading.{case_read}
+use mathlib.Core.Path.{◌≡◌, refl}
+use borrow.Author.Tests.{ne_eqb}
+use Rattle.layout.specs.Layout.{fine, wrong, other_mapping, error_result}
+use Rattle.layout.specs.Entities.{as_or_numeric}
 
--- What is read by a table of tags: a known tag, and what follows it
-record Tagged (rows : Tags) (s : List ℕ) (at : ℕ) (ls : List Leaf) (next : ℕ) : Type 0 where
-  left : at + 1 ≤ length s
-  others : List Leaf
-  first : ls ≡ plain Tag (get_or s at 0) ∷ others
-  rest : read (follows rows (get_or s at 0)) s (at + 1) ≡ ok others next
+pub error_in : (result mapping : ℕ) → result ≢ 1 → as_or_numeric result mapping ≡ wrong error_result
+error_in result mapping h = rw (ne_eqb result 1 h) refl
 
-not_ok : {ls : List Leaf} {next n p : ℕ} → ◌≡◌ {A = Outcome ℕ (List Leaf)} (refuse n p) (ok ls next) → ⊥
-not_ok e = let z : ◌≡◌ {A = ℕ} 0 1 = cc in omega arith
+pub as_in : (result mapping : ℕ) → result ≡ 1 → mapping ≡ 1 → as_or_numeric result mapping ≡ fine
+as_in result mapping h k = rw (h, k) refl
 
-tagged : (rows : Tags) (s : List ℕ) (at : ℕ) (ls : List Leaf) (next : ℕ) → read (tags rows) s at ≡ ok ls next → Tagged rows s at ls next
-tagged rows s at ls next h = go (enough s at 1) refl (sym (read_case Tag nothing (known unknown_tag rows) (follows rows) s at) ∙ h)
-  where
-    last : (o : Outcome ℕ (List Leaf)) → read (follows rows (get_or s at 0)) s (at + 1) ≡ o → at + 1 ≤ length s
-        → after (plain Tag (get_or s at 0) ∷ []) o ≡ ok ls next → Tagged rows s at ls next
-    last (ok ms end) e l q =
-        let a : plain Tag (get_or s at 0) ∷ ms ≡ ls = cc in
-        let b : end ≡ next = cc in
-        record { left = l; others = ms; first = sym a; rest = rw b at e }
-    last (refuse n p) e l q = absurd (not_ok q)
+pub numeric_in : (result mapping : ℕ) → result ≡ 1 → mapping ≡ 3 → as_or_numeric result mapping ≡ fine
+numeric_in result mapping h k = rw (h, k) refl
 
-    verdict : (v : Verdict) → at + 1 ≤ length s → judged v at (after (plain Tag (get_or s at 0) ∷ []) (read (follows rows (get_or s at 0)) s (at + 1))) ≡ ok ls next → Tagged rows s at ls next
-    verdict fine l q = last (read (follows rows (get_or s at 0)) s (at + 1)) refl l q
-    verdict (wrong f) l q = absurd (not_ok q)
-
-    go : (b : Bool) → enough s at 1 ≡ b
-        → (need b 5 at (ok (get_or s at 0) (at + 1)) >>= λ n k. read nothing s k >>= λ ms k₂. judged (known unknown_tag rows n) at (after (plain Tag n ∷ ms) (read (follows rows n) s k₂))) ≡ ok ls next
-        → Tagged rows s at ls next
-    go true e q = verdict (known unknown_tag rows (get_or s at 0)) (leb-true _ _ e) (rw (read_nothing s (at + 1)) at q)
-    go false e q = absurd (not_ok q)
-
--- A refused result is not judged
-pub result_refused : (s : List ℕ) (st st₁ : ReadState) → st₁ ≡ run ArgumentSql s st → Refused st₁ → st₁ ≡ run DeclaredSql s st
-unfolding DeclaredSql
-result_refused s st st₁ e h =
-    check_law ArgumentSql result_verdict (reader s) st st₁ st₁ e (sym (pass_refused s (verdict_on result_verdict (read ArgumentSql s st.cursor.at)) st st₁ h))
-
--- For a result that was read: its first byte and, if that is Ok, the next
-module _ (s : List ℕ) (st st₁ : ReadState) (e : st₁ ≡ run ArgumentSql s st) (z : st₁.cursor.refusal ≡ 0) where
-  abbrev at : ℕ
-  at = st.cursor.at
-
-  was_read : (ls : List Leaf) × (next : ℕ) × (read ArgumentSql s at ≡ ok ls next)
-  unfolding ArgumentSql
-  was_read = case_read Tag nothing (known unknown_tag argument_results) (follows argument_results) s st (sym (ap (λ (x : ReadState). x.cursor.refusal) e) ∙ z)
-
-  result : Tagged argument_results s at was_read.0 was_read.1
-  unfolding ArgumentSql
-  result = tagged argument_results s at was_read.0 was_read.1 was_read.2
-
-  pub result_left : at + 1 ≤ length s
-  result_left = result.left
-
-  pub verdict_error : get_or s at 0 ≢ 1 → verdict_on result_verdict (read ArgumentSql s at) ≡ wrong error_result
-  verdict_error h = rw (was_read.2, result.first, ne_eqb (get_or s at 0) 1 h)
-
-  module _ (h : get_or s at 0 ≡ 1) where
-    mapping : Tagged sql_mappings s (at + 1) result.others was_read.1
-    unfolding SqlMapping
-    mapping = tagged sql_mappings s (at + 1) result.others was_read.1 (rw h at result.rest)
-
-    pub mapping_left : at + 1 + 1 ≤ length s
-    mapping_left = mapping.left
-
-    pub verdict_mapping : verdict_on result_verdict (read ArgumentSql s at) ≡ as_or_numeric 1 (get_or s (at + 1) 0)
-    verdict_mapping = rw (was_read.2, result.first, mapping.first, h)
+pub other_in : (result mapping : ℕ) → result ≡ 1 → mapping ≢ 1 → mapping ≢ 3 → as_or_numeric result mapping ≡ wrong other_mapping
+other_in result mapping h k l = rw (h, ne_eqb mapping 1 k, ne_eqb mapping 3 l) refl

@@ -1,69 +1,54 @@
 // The declarations of custom SQL.
 #![tactic(auto)]
 
-ghost use Rattle.std.specs.Prelude.{◌≡◌};
 ghost use Rattle.layout.specs.Entities.{SqlDeclared, SqlDeclaredList, DeclaredType, DeclaredSql};
-ghost use Rattle.leaf.specs.State.{read_state};
-ghost use Rattle.leaf.specs.Run.{run};
+ghost use Rattle.pass.specs.Pass.{Runs};
 
-use leaf::Cursor;
+use pass::Pass;
+use table::RefusalKind;
 
 // A declaration: its kind is judged only after its name.
-pub fn read_sql_declared(c: Cursor, s: &[u8], t: &mut [u32]) -> Cursor
-    ensures { read_state result t.new ≡ run SqlDeclared s.now (read_state c t.old) }
+pub fn sql_declared<P: Pass>(p: &mut P)
+    ensures { Runs P.meaning SqlDeclared p.old p.new }
 {
-    let place = c.at;
-    let c = c.read_u8(s, t);
-    let kind = c.value;
-    let c = c.read_str(s, t); // name
+    let begin = p.place();
+    let kind = p.u8();
+    p.str(); // name
     match kind {
-        layout::SQL_DECLARED_TYPE..=layout::SQL_DECLARED_ENUM => read_declared_type(c, s, t),
-        layout::SQL_DECLARED_FUNCTION => c,
-        _ => c.refused(9, place),
+        layout::SQL_DECLARED_TYPE..=layout::SQL_DECLARED_ENUM => declared_type(p),
+        layout::SQL_DECLARED_FUNCTION => {}
+        _ => p.refuse(RefusalKind::UnknownTag, begin),
     }
 }
 
-pub fn read_declared_type(c: Cursor, s: &[u8], t: &mut [u32]) -> Cursor
-    ensures { read_state result t.new ≡ run DeclaredType s.now (read_state c t.old) }
+pub fn declared_type<P: Pass>(p: &mut P)
+    ensures { Runs P.meaning DeclaredType p.old p.new }
 {
-    let c = c.read_str(s, t); // type_ident
-    read_declared_sql(c, s, t) // sql
+    p.str(); // type_ident
+    declared_sql(p) // sql
 }
 
-// The result of a declaration: it is read in full, and must then be a mapping As or Numeric.
-pub fn read_declared_sql(c: Cursor, s: &[u8], t: &mut [u32]) -> Cursor
-    ensures { read_state result t.new ≡ run DeclaredSql s.now (read_state c t.old) }
+// The result of a declaration: all of it is passed over, and it must then be a mapping As or Numeric, as its first two tags say.
+pub fn declared_sql<P: Pass>(p: &mut P)
+    ensures { Runs P.meaning DeclaredSql p.old p.new }
 {
-    let at = c.at;
-    let c = metadata::read_argument_sql(c.copy(), s, t);
-    if c.refusal != 0 {
-        return c;
+    let begin = p.place();
+    metadata::argument_sql(p);
+    if p.is_refused() {
+        return;
     }
-    let result = raw_bytes::wide(s[at]);
-    if result != layout::RESULT_OK {
-        return c.refused(11, at);
+    if p.seen(begin, 0) != layout::RESULT_OK {
+        return p.refuse(RefusalKind::DeclaredError, begin);
     }
-    let tag = at + 1;
-    let mapping = raw_bytes::wide(s[tag]);
-    match mapping {
-        layout::SQL_MAPPING_AS => c,
-        layout::SQL_MAPPING_NUMERIC => c,
-        _ => c.refused(10, at),
+    match p.seen(begin, 1) {
+        layout::SQL_MAPPING_AS => {}
+        layout::SQL_MAPPING_NUMERIC => {}
+        _ => p.refuse(RefusalKind::NoSqlText, begin),
     }
 }
 
-pub fn read_sql_declared_list(c: Cursor, s: &[u8], t: &mut [u32]) -> Cursor
-    ensures { read_state result t.new ≡ run SqlDeclaredList s.now (read_state c t.old) }
+pub fn sql_declared_list<P: Pass>(p: &mut P)
+    ensures { Runs P.meaning SqlDeclaredList p.old p.new }
 {
-    let mut c = c.read_count(s, t);
-    let count = c.value;
-    let mut i: u32 = 0;
-    while i < count {
-        if c.refusal != 0 {
-            return c;
-        }
-        c = read_sql_declared(c, s, t);
-        i += 1;
-    }
-    c
+    pass::list(p, sql_declared::<P>)
 }

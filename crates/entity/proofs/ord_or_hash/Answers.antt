@@ -1,0 +1,8 @@
+-- The parts, one after the other.
+use Rattle.layout.specs.Entities.{OrdOrHash}
+use Rattle.pass.proofs.Passes.{then_in}
+use Rattle.entity.proofs.ord_or_hash.Goals as goal
+
+pub returns : goal.returns
+unfolding OrdOrHash
+returns g c = then_in c.str.ensures (then_in c.str-2.ensures (then_in c.u32.ensures (then_in c.str-3.ensures (then_in c.str-4.ensures (then_in c.str-5.ensures c.to_sql_config.ensures)))))

@@ -1,0 +1,8 @@
+-- The parts, one after the other.
+use Rattle.layout.specs.Entities.{Trigger}
+use Rattle.pass.proofs.Passes.{then_in}
+use Rattle.entity.proofs.trigger.Goals as goal
+
+pub returns : goal.returns
+unfolding Trigger
+returns g c = then_in c.str.ensures (then_in c.str-2.ensures (then_in c.u32.ensures (then_in c.str-3.ensures (then_in c.str-4.ensures c.to_sql_config.ensures))))

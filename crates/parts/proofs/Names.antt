@@ -1,5 +1,5 @@
 -- The walk over a name: its counts, its parts, and its answer.
-use Prim.Native.Nat.{ℕ, ◌+◌, ◌-◌, ◌≤◌}
+use Prim.Native.Nat.{ℕ, min, ◌+◌, ◌-◌, ◌≤◌}
 use native.Mathlib.Omega.{arith}
 use mathlib.Core.Bool.{Bool, true, false, cond, ◌&&◌, false≢true}
 use mathlib.Core.List.{List, [], ◌∷◌, ◌++◌}
@@ -60,6 +60,13 @@ held_next a b e = go (leb (a + 1) most_held) (leb (b + 1) most_held) refl refl
     go true false t u = absurd (apart a b e t u)
     go false true t u = absurd (apart b a (sym e) u t)
     go false false t u = held_large (a + 1) (omega (arith, leb-false (a + 1) most_held t)) ∙ sym (held_large (b + 1) (omega (arith, leb-false (b + 1) most_held u)))
+
+pub held_is : (n : ℕ) → min n most_held ≡ held n
+held_is n = go (leb n most_held) refl
+  where
+    go : (t : Bool) → leb n most_held ≡ t → min n most_held ≡ held n
+    go true t = let h = leb-true n most_held t in omega (arith, h, held_small n h)
+    go false t = let h = leb-false n most_held t in omega (arith, h, held_large n (omega (arith, h)))
 
 -- One more byte for two walks that both have a pair open, or both none: it closes a pair, it opens one, or it does neither
 both_next : (R : Colons → Colons → Type 0) (p q : Colons) (b : ℕ) → p.opened ≡ q.opened

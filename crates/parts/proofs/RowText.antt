@@ -14,10 +14,7 @@ use Rattle.layout.specs.Reading.{Outcome, ok, refuse, ◌>>=◌, need, utf8, eno
 use Rattle.layout.specs.Answers.{limit}
 use Rattle.layout.proofs.Equations.{read_text_lem}
 use Rattle.table.specs.declared.Row.{Row}
-use Rattle.table.specs.declared.Refusal.{Refusal}
-use Rattle.place.specs.declared.PartPlace.{PartPlace}
-use Rattle.place.specs.declared.PartPlace.TheVariants.{Refused}
-use Rattle.place.specs.Place.{between, number_in, found_part}
+use Rattle.place.specs.Place.{between, number_in}
 use Rattle.parts.specs.Parts.{row_text}
 use Rattle.parts.specs.Private.{Untested}
 use Rattle.parts.specs.Theorems.{RowLies, RowPart}
@@ -59,10 +56,6 @@ module _ (s : List ℕ) (row : Row) where
         go : (t : Bool) → automaton.utf8 (between s start end) ≡ t → need t 15 0 (ok start end) ≡ refuse 15 0
         go true t = absurd (n ((utf8_exact (between s start end)).0 t))
         go false t = refl
-
-  -- A refusal is that of the row
-  pub refused : (p : PartPlace) (refusal : Refusal) → Untested s row (found_part p) → p ≡ Refused refusal → row_text s row ≡ refuse refusal.number refusal.place
-  refused p refusal u e = rw e at u
 
   -- A row that is not refused
   pub accepted : number_in (row_text s row) ≡ 0 → (row.offset + row.value ≤ length s) × (row_text s row ≡ ok row.offset (row.offset + row.value))

@@ -1,12 +1,10 @@
 -- The walk over a declared name: whether the name is UTF-8, and where its SQL name starts (docs/FORMAT.md, Texts, SQL names and SQL texts).
-use Rattle.std.specs.Prelude.{ℕ, ◌-◌, ◌≤◌, false, cond, List, ◌≡◌, leb, length, drop}
+use Rattle.std.specs.Prelude.{ℕ, ◌-◌, ◌≤◌, false, cond, List, Option, Some, None, ◌≡◌, leb, length, drop}
 use Rattle.text.specs.Rfc3629.{Utf8}
 use Rattle.text.specs.Walk.{State, start, wanted_after, accepting, utf8}
 use Rattle.text.specs.States.{state_of}
 use Rattle.text.specs.Colons.{Colons, colons_after, unwalked}
 use Rattle.parts.specs.declared.NameWalk.{NameWalk}
-use Rattle.parts.specs.declared.NameStart.{NameStart}
-use Rattle.parts.specs.declared.NameStart.TheVariants.{At, NotUtf8}
 use Rattle.parts.specs.Parts.{sql_name}
 
 -- What is answered of a name: where its SQL name starts; or that it is not UTF-8
@@ -60,7 +58,7 @@ walk_answer w = cond (accepting w.state) (starts_at w.colons.end) not_utf8
 abbrev pub standing : NameWalk → Standing
 standing w = record { state = state_of w.state; colons = record { opened = w.opened; end = w.start; seen = w.seen } }
 
--- The meaning of each case of the code's answer
-abbrev pub start_of : NameStart → SqlStart
-start_of (At k) = starts_at k
-start_of NotUtf8 = not_utf8
+-- The meaning of the code's answer
+abbrev pub start_of : Option ℕ → SqlStart
+start_of (Some k) = starts_at k
+start_of None = not_utf8

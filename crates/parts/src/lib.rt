@@ -3,26 +3,19 @@
 #![tactic(auto)]
 
 ghost use Rattle.std.specs.Prelude.{List, ◌++◌, ◌≡◌, ℕ, ◌+◌, ◌≤◌, length};
-ghost use Rattle.place.specs.Place.{found_part, part_of, number_in, place_in};
+ghost use Rattle.place.specs.Place.{found_part, part_of, number_in, place_in, bytes_told, number_told, place_told};
 ghost use Rattle.parts.specs.Parts.{row_text, kept_name, kept_name_in, ExactKeptName, sql_name, sql_name_in};
 ghost use Rattle.parts.specs.Names.{name_start, ExactStart, unbegun, most_held, held, walked_over, StandsAfter, walk_answer, standing, start_of};
 ghost use Rattle.parts.specs.Private.{Untested, end_after};
 
 use layout::LIMIT;
-use place::PartPlace;
-use table::Row;
-use text::{State, TextCheck};
-
-// Where the SQL name of a declared name starts; or that the name is not UTF-8.
-#[derive(Clone, Copy)]
-pub enum NameStart {
-    At { start: usize },
-    NotUtf8,
-}
+use place::Part;
+use table::{Refusal, RefusalKind, Row};
+use text::State;
 
 // Where a walk over a declared name stands: the state of the text check, whether a colon is open, where the SQL name starts so
 // far, and how many bytes the walk has seen. Both numbers count from the start of the whole name.
-#[derive(Clone, Copy)]
+#[derive(Clone, Copy, Debug, PartialEq, Eq)]
 pub struct NameWalk {
     pub state: State,
     pub opened: bool,
@@ -30,113 +23,90 @@ pub struct NameWalk {
     pub seen: usize,
 }
 
-// The greatest number that a walk holds.
-const MOST_HELD: usize = 18446744073709551615;
-
 // Where the text of a row is.
-pub fn place_row_text(section: &[u8], row: Row) -> PartPlace
+pub fn place_row_text(section: &[u8], row: Row) -> Result<Part, Refusal>
     ensures { found_part result ≡ row_text section.now row }
 {
-    let found = place_row_bytes(section, row);
-    let PartPlace::Part { start, len } = found else {
-        return found;
-    };
-    let end = start + len;
-    if text::is_utf8(&section[start..end]) {
-        return found;
+    let part = place_row_bytes(section, row)?;
+    if text::is_utf8(part.of(section)) {
+        return Ok(part);
     }
-    place::no_part(15)
+    place::no_part(RefusalKind::BadTextRow)
 }
 
 // The same, with nothing known of the bytes there.
-fn place_row_bytes(section: &[u8], row: Row) -> PartPlace
+fn place_row_bytes(section: &[u8], row: Row) -> Result<Part, Refusal>
     ensures { Untested section.now row (found_part result) }
 {
     if LIMIT < section.len() {
-        return place::no_part(1);
-    }
-    if row.sort != layout::SORT_TEXT {
-        return place::no_part(15);
+        return place::no_part(RefusalKind::InputTooLong);
     }
     let start = row.offset as usize;
     let len = row.value as usize;
-    if section.len() < start {
-        return place::no_part(15);
+    if row.sort != layout::SORT_TEXT || section.len() < start || section.len() - start < len {
+        return place::no_part(RefusalKind::BadTextRow);
     }
-    if section.len() - start < len {
-        return place::no_part(15);
-    }
-    PartPlace::Part { start, len }
+    Ok(Part { start, len })
 }
 
-// The text of a row, a part of the section; or an empty part, with the refusal's number and place.
-pub fn row_text<'a>(section: &'a [u8], row: Row, number: &mut u32, place: &mut usize) -> &'a [u8]
-    ensures result_value { result.now ≡ part_of section.now (row_text section.now row) }
-    ensures number_after { number.new ≡ number_in (row_text section.now row) }
-    ensures place_after { place.new ≡ place_in (row_text section.now row) }
+// The text of a row, a part of the section.
+pub fn row_text<'a>(section: &'a [u8], row: Row) -> Result<&'a [u8], Refusal>
+    ensures result_value { bytes_told result ≡ part_of section.now (row_text section.now row) }
+    ensures number_after { number_told result ≡ number_in (row_text section.now row) }
+    ensures place_after { place_told result ≡ place_in (row_text section.now row) }
 {
-    let found = place_row_text(section, row);
-    place::part_at(section, found, number, place)
+    place::part_at(section, place_row_text(section, row))
 }
 
 // Where the kept name of a row is: as much of its text as the server keeps of a name. The whole text is tested.
-pub fn place_kept_name(section: &[u8], row: Row) -> PartPlace
+pub fn place_kept_name(section: &[u8], row: Row) -> Result<Part, Refusal>
     ensures result_value { found_part result ≡ kept_name_in section.now (row_text section.now row) }
     ensures exact_kept_name { ExactKeptName section.now row (found_part result) }
 {
-    let found = place_row_bytes(section, row);
-    let PartPlace::Part { start, len } = found else {
-        return found;
+    let part = place_row_bytes(section, row)?;
+    let Some(len) = text::check_text(part.of(section)) else {
+        return place::no_part(RefusalKind::BadTextRow);
     };
-    let end = start + len;
-    let checked = text::check_text(&section[start..end]);
-    let TextCheck::Yes { kept } = checked else {
-        return place::no_part(15);
-    };
-    PartPlace::Part { start, len: kept }
+    Ok(Part {
+        start: part.start,
+        len,
+    })
 }
 
-// The kept name of a row, a part of the section; or an empty part, with the refusal's number and place.
-pub fn kept_name<'a>(section: &'a [u8], row: Row, number: &mut u32, place: &mut usize) -> &'a [u8]
-    ensures result_value { result.now ≡ kept_name (part_of section.now (row_text section.now row)) }
-    ensures number_after { number.new ≡ number_in (row_text section.now row) }
-    ensures place_after { place.new ≡ place_in (row_text section.now row) }
+// The kept name of a row, a part of the section.
+pub fn kept_name<'a>(section: &'a [u8], row: Row) -> Result<&'a [u8], Refusal>
+    ensures result_value { bytes_told result ≡ kept_name (part_of section.now (row_text section.now row)) }
+    ensures number_after { number_told result ≡ number_in (row_text section.now row) }
+    ensures place_after { place_told result ≡ place_in (row_text section.now row) }
 {
-    let found = place_kept_name(section, row);
-    place::part_at(section, found, number, place)
+    place::part_at(section, place_kept_name(section, row))
 }
 
 // Where the SQL name of a declaration is, from the row of the declaration's name.
-pub fn place_sql_name(section: &[u8], row: Row) -> PartPlace
+pub fn place_sql_name(section: &[u8], row: Row) -> Result<Part, Refusal>
     ensures { found_part result ≡ sql_name_in section.now (row_text section.now row) }
 {
-    let found = place_row_bytes(section, row);
-    let PartPlace::Part { start, len } = found else {
-        return found;
+    let part = place_row_bytes(section, row)?;
+    let Some(before) = name_start(part.of(section)) else {
+        return place::no_part(RefusalKind::BadTextRow);
     };
-    let end = start + len;
-    let answer = name_start(&section[start..end]);
-    let NameStart::At { start: before } = answer else {
-        return place::no_part(15);
-    };
-    PartPlace::Part {
-        start: start + before,
-        len: len - before,
-    }
+    Ok(Part {
+        start: part.start + before,
+        len: part.len - before,
+    })
 }
 
 // The SQL name of a declaration, a part of the section, from the row of the declaration's name.
-pub fn sql_name<'a>(section: &'a [u8], row: Row, number: &mut u32, place: &mut usize) -> &'a [u8]
-    ensures result_value { result.now ≡ sql_name (part_of section.now (row_text section.now row)) }
-    ensures number_after { number.new ≡ number_in (row_text section.now row) }
-    ensures place_after { place.new ≡ place_in (row_text section.now row) }
+pub fn sql_name<'a>(section: &'a [u8], row: Row) -> Result<&'a [u8], Refusal>
+    ensures result_value { bytes_told result ≡ sql_name (part_of section.now (row_text section.now row)) }
+    ensures number_after { number_told result ≡ number_in (row_text section.now row) }
+    ensures place_after { place_told result ≡ place_in (row_text section.now row) }
 {
-    let found = place_sql_name(section, row);
-    place::part_at(section, found, number, place)
+    place::part_at(section, place_sql_name(section, row))
 }
 
-// Where the SQL name of a declared name starts, by one walk over the name.
-pub fn name_start(name: &[u8]) -> NameStart
+// Where the SQL name of a declared name starts, if the name is UTF-8, by one walk over the name.
+pub fn name_start(name: &[u8]) -> Option<usize>
     ensures result_value { start_of result ≡ name_start name.now }
     ensures exact_start { ExactStart name.now (start_of result) }
 {
@@ -162,27 +132,21 @@ impl NameWalk {
         ensures result_value { standing result ≡ walked_over (standing self) bytes.now }
         ensures by_index { (l : List ℕ) → StandsAfter l (standing self) → StandsAfter (l ++ bytes.now) (standing result) }
     {
-        let state = self.state;
-        let walked = text::walk_colons(state, self.opened, bytes);
-        let state = walked.state;
+        let walked = text::walk_colons(self.state, self.opened, bytes);
         NameWalk {
-            state,
+            state: walked.state,
             opened: walked.opened,
             start: start_after(self.start, self.seen, walked.end),
-            seen: count_on(self.seen, bytes.len()),
+            seen: self.seen.saturating_add(bytes.len()),
         }
     }
 
-    // The answer, if no more bytes follow.
-    pub fn answer(self) -> NameStart
+    // The answer, if no more bytes follow: where the SQL name starts, if the name is UTF-8.
+    pub fn answer(self) -> Option<usize>
         ensures result_value { start_of result ≡ walk_answer (standing self) }
         ensures by_index { (l : List ℕ) → length l ≤ most_held → StandsAfter l (standing self) → ExactStart l (start_of result) }
     {
-        let state = self.state;
-        match state {
-            State::Start => NameStart::At { start: self.start },
-            _ => NameStart::NotUtf8,
-        }
+        (self.state == State::Start).then_some(self.start)
     }
 }
 
@@ -194,15 +158,5 @@ fn start_after(start: usize, seen: usize, end: usize) -> usize
     if end == 0 {
         return start;
     }
-    count_on(seen, end)
-}
-
-// A count, and n more.
-fn count_on(count: usize, n: usize) -> usize
-    ensures { result ≡ held (count + n) }
-{
-    if MOST_HELD - count < n {
-        return MOST_HELD;
-    }
-    count + n
+    seen.saturating_add(end)
 }

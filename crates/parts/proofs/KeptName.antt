@@ -9,7 +9,7 @@ use Rattle.text.specs.Kept.{ServerKeeps, kept_length}
 use Rattle.text.proofs.Kept.{kept_exact}
 use Rattle.layout.specs.Reading.{Outcome, ok, refuse}
 use Rattle.table.specs.declared.Row.{Row}
-use Rattle.place.specs.Place.{between, part_of, number_in, place_in}
+use Rattle.place.specs.Place.{between, part_of, number_in}
 use Rattle.place.proofs.Between.{length_between}
 use Rattle.parts.specs.Parts.{row_text, kept_name, kept_name_in, ExactKeptName}
 use Rattle.parts.specs.Theorems.{KeptPart, KeptNameExact}
@@ -56,11 +56,6 @@ kept_name_exact s row o = (λ e. rw e (forth (row_text s row) refl), back o)
         let n : end ≡ start + kept_length t = omega (arith, (kept_exact t (end - start)).1 k, h) in
         ap (ok start) n ∙ sym (ap (kept_name_in s) e)
     back (refuse n p) e = sym (ap (kept_name_in s) e)
-
--- Its refusals are those of the text
-pub kept_refusal : (s : List ℕ) (o : Outcome ℕ ℕ) → (number_in (kept_name_in s o) ≡ number_in o) × (place_in (kept_name_in s o) ≡ place_in o)
-kept_refusal s (ok start end) = (refl, refl)
-kept_refusal s (refuse n p) = (refl, refl)
 
 -- An answer by the equation is one by conditions
 pub kept_both : (s : List ℕ) (row : Row) (o : Outcome ℕ ℕ) → o ≡ kept_name_in s (row_text s row) → (o ≡ kept_name_in s (row_text s row)) × ExactKeptName s row o

@@ -9,7 +9,7 @@ use lib.ListN.{length, get_or, take, drop, length-drop}
 use lib.Seq.{drop-cons, drop-drop}
 use Rattle.layout.specs.Reading.{Outcome, ok, refuse}
 use Rattle.layout.proofs.InBytes.{drop_take}
-use Rattle.place.specs.Place.{between, part_of, number_in, place_in}
+use Rattle.place.specs.Place.{between, part_of}
 use Rattle.place.proofs.Between.{length_between}
 use Rattle.parts.specs.Parts.{row_text, colon, after_last, sql_name, sql_name_in}
 use Rattle.parts.specs.Theorems.{NameEnd, NamePart, NameCases}
@@ -76,8 +76,3 @@ name_placed s start len before o e h k q =
     let a : start + before ≡ start + len - length (sql_name name) = omega (arith, l, m) in
     let b : start + before + (len - before) ≡ start + len = omega (arith, l) in
     ap (λ (n : ℕ). ok n (start + before + (len - before))) a ∙ ap (ok (start + len - length (sql_name name))) b ∙ sym (ap (sql_name_in s) e)
-
--- Its refusals are those of the name
-pub name_refusal : (s : List ℕ) (o : Outcome ℕ ℕ) → (number_in (sql_name_in s o) ≡ number_in o) × (place_in (sql_name_in s o) ≡ place_in o)
-name_refusal s (ok start end) = (refl, refl)
-name_refusal s (refuse n p) = (refl, refl)

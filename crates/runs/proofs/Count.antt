@@ -7,6 +7,7 @@ use mathlib.Core.Logic.{◌⊎◌, inl, inr, ⊎_elim}
 use mathlib.Core.Path.{◌≡◌, refl, sym, ap, ◌∙◌}
 use lib.ListN.{length, get_or, drop, drop_of_length-le}
 use lib.Seq.{drop-cons}
+use Rattle.std.specs.declared.cmp.Ordering.TheVariants.{Less, Equal}
 use Rattle.layout.specs.Answers.{limit}
 use Rattle.raw_bytes.proofs.Compared.{same_refl}
 use Rattle.runs.specs.Runs.{kind_and_text, kinds_and_texts, equals, pairs}
@@ -16,7 +17,7 @@ use Rattle.runs.proofs.Ordering.{order_equal, order_trans, order_differ}
 -- None of these is less than t
 abbrev pub Least : List ℕ → List (List ℕ) → Type 0
 Least t [] = Unit {0}
-Least t (u ∷ us) = ((kind_order t u ≡ 0) ⊎ (t ≡ u)) × Least t us
+Least t (u ∷ us) = ((kind_order t u ≡ Less) ⊎ (t ≡ u)) × Least t us
 
 -- One in front of others: it is the least, `run` are the same, itself included, and all together have n pairs
 pub record Front (t : List ℕ) (ts : List (List ℕ)) (run n : ℕ) : Type 0 where
@@ -25,7 +26,7 @@ pub record Front (t : List ℕ) (ts : List (List ℕ)) (run n : ℕ) : Type 0 wh
   pub pairs_is : n ≡ pairs (t ∷ ts)
 
 -- What is less than the least is less than all, and none is equal to it
-module _ (t u : List ℕ) (e : kind_order t u ≡ 0) where
+module _ (t u : List ℕ) (e : kind_order t u ≡ Less) where
   least_less : (us : List (List ℕ)) → Least u us → Least t us
   least_less [] l = tt
   least_less (v ∷ us) l = (inl (⊎_elim (λ p. order_trans t u v e p) (λ p. rw p at e) l.0), least_less us l.1)
@@ -33,14 +34,14 @@ module _ (t u : List ℕ) (e : kind_order t u ≡ 0) where
   none_equal : (us : List (List ℕ)) → Least u us → equals t us ≡ 0
   none_equal [] l = refl
   none_equal (v ∷ us) l =
-      let o : kind_order t v ≡ 0 = ⊎_elim (λ p. order_trans t u v e p) (λ p. rw p at e) l.0 in
+      let o : kind_order t v ≡ Less = ⊎_elim (λ p. order_trans t u v e p) (λ p. rw p at e) l.0 in
       rw (order_differ t v o) (omega (arith, none_equal us l.1))
 
 front_last : (t : List ℕ) → Front t [] 1 0
 front_last t = record { least = tt; run_is = refl; pairs_is = refl }
 
 module _ {u : List ℕ} {us : List (List ℕ)} {run n : ℕ} (f : Front u us run n) (t : List ℕ) where
-  front_equal : kind_order t u ≡ 1 → Front t (u ∷ us) (run + 1) (n + run)
+  front_equal : kind_order t u ≡ Equal → Front t (u ∷ us) (run + 1) (n + run)
   front_equal e =
       rw (order_equal t u e)
       (record {
@@ -49,7 +50,7 @@ module _ {u : List ℕ} {us : List (List ℕ)} {run n : ℕ} (f : Front u us run
         pairs_is = rw (same_refl u) (omega (arith, f.run_is, f.pairs_is));
       })
 
-  front_less : kind_order t u ≡ 0 → Front t (u ∷ us) 1 n
+  front_less : kind_order t u ≡ Less → Front t (u ∷ us) 1 n
   front_less e =
       let z : equals t (u ∷ us) ≡ 0 = rw (order_differ t u e) (omega (arith, none_equal t u e us f.least)) in
       record {
@@ -81,7 +82,7 @@ module _ {s l : List ℕ} {next run n : ℕ} (f : From s l next run n) (at : ℕ
   from_front : (run₂ n₂ : ℕ) → Front (kind_and_text s (get_or l at 0)) (kind_and_text s (get_or l next 0) ∷ kinds_and_texts s (drop (next + 1) l)) run₂ n₂ → Front (kind_and_text s (get_or l at 0)) (kinds_and_texts s (drop (at + 1) l)) run₂ n₂
   from_front run₂ n₂ r = rw (← e, marks_there s l next f.inside) r
 
-  pub from_equal : length l ≤ limit → kind_order (kind_and_text s (get_or l at 0)) (kind_and_text s (get_or l next 0)) ≡ 1 → From s l at (run + 1) (n + run)
+  pub from_equal : length l ≤ limit → kind_order (kind_and_text s (get_or l at 0)) (kind_and_text s (get_or l next 0)) ≡ Equal → From s l at (run + 1) (n + run)
   from_equal h o =
       record {
         inside = omega (arith, f.inside);
@@ -90,7 +91,7 @@ module _ {s l : List ℕ} {next run n : ℕ} (f : From s l next run n) (at : ℕ
         front = from_front (run + 1) (n + run) (front_equal f.front (kind_and_text s (get_or l at 0)) o);
       }
 
-  pub from_less : kind_order (kind_and_text s (get_or l at 0)) (kind_and_text s (get_or l next 0)) ≡ 0 → From s l at 1 n
+  pub from_less : kind_order (kind_and_text s (get_or l at 0)) (kind_and_text s (get_or l next 0)) ≡ Less → From s l at 1 n
   from_less o =
       record {
         inside = omega (arith, f.inside);

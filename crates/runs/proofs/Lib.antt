@@ -1,4 +1,3 @@
-pub mod Text
 pub mod Ordering
 pub mod Swaps
 pub mod Count

@@ -4,13 +4,15 @@ use native.Mathlib.Omega.{arith}
 use mathlib.Core.Bool.{Bool, true, false, cond}
 use mathlib.Core.List.{List, [], ◌∷◌, map}
 use mathlib.Core.Path.{◌≡◌, refl, sym, ◌∙◌}
-use lib.ListN.{length, get_or, set, length-set, length-map, get_or-map}
+use lib.ListN.{length, get_or, set, length-set}
 use borrow.Author.Tests.{le-leb, lt-leb}
 use Rattle.layout.specs.Answers.{limit}
 use Rattle.raw_bytes.specs.Bytes.{same}
 use Rattle.raw_bytes.proofs.Compared.{same_sound, same_refl}
 use Rattle.runs.specs.Runs.{kind_and_text, kinds_and_texts, equals, pairs, equal_pairs}
-use Rattle.runs.specs.Private.{swapped, Kept}
+use Rattle.std.specs.List.{swap}
+use Rattle.std.specs.List.Sorted.{IsPermutation}
+use Rattle.std.proofs.lemmas.List.Sorted.{IsPermutation-map, IsPermutation-keeps}
 
 -- 1 if two lists are the same, else 0
 unfoldable one : List ℕ → List ℕ → ℕ
@@ -71,26 +73,15 @@ module _ {A B : Type 0} (f : A → B) where
   map_set (x ∷ l) zero v = refl
   map_set (x ∷ l) (suc i) v = rw (map_set l i v)
 
-module _ (s : List ℕ) where
-  marks_swap : (l : List ℕ) (i j : ℕ) → i < length l → j < length l → pairs (kinds_and_texts s (swapped l i j)) ≡ pairs (kinds_and_texts s l)
-  marks_swap l i j h k =
-      let d = kind_and_text s 0 in
-      rw (map_set (kind_and_text s) (set l i (get_or l j 0)) j (get_or l i 0), map_set (kind_and_text s) l i (get_or l j 0), ← get_or-map (kind_and_text s) l i 0, ← get_or-map (kind_and_text s) l j 0)
-      (pairs_swap d (kinds_and_texts s l) i j (omega (arith, length-map l (kind_and_text s))) (omega (arith, length-map l (kind_and_text s))))
+-- In another order there are as many pairs
+pairs_moved : (ts us : List (List ℕ)) (i j : ℕ) → i < length us → j < length us → pairs us ≡ pairs ts → pairs (swap us i j) ≡ pairs ts
+pairs_moved ts [] i j h k e = absurd (omega arith)
+pairs_moved ts (u ∷ us) i j h k e = pairs_swap u (u ∷ us) i j h k ∙ e
 
-  pub kept_same : (l : List ℕ) → Kept s l l
-  kept_same l = record { length_is = refl; pairs_is = refl }
-
-  pub kept_swap : {l m n : List ℕ} → Kept s l m → (i j : ℕ) → n ≡ swapped m i j → i < length l → j < length l → Kept s l n
-  kept_swap {l} {m} k i j e h h₂ =
-      rw e
-      (record {
-        length_is = length-set (set m i (get_or m j 0)) j (get_or m i 0) ∙ length-set m i (get_or m j 0) ∙ k.length_is;
-        pairs_is = marks_swap m i j (omega (arith, k.length_is)) (omega (arith, k.length_is)) ∙ k.pairs_is;
-      })
-
-  pub kept_on : {l m n : List ℕ} → Kept s l m → Kept s m n → Kept s l n
-  kept_on k j = record { length_is = j.length_is ∙ k.length_is; pairs_is = j.pairs_is ∙ k.pairs_is }
+pub pairs_sorted : (s l m : List ℕ) → IsPermutation l m → pairs (kinds_and_texts s m) ≡ pairs (kinds_and_texts s l)
+pairs_sorted s l m p =
+    let ts = kinds_and_texts s l in
+    IsPermutation-keeps ts (λ us. pairs us ≡ pairs ts) refl (pairs_moved ts) (kinds_and_texts s m) (IsPermutation-map (kind_and_text s) l m p)
 
 -- The pairs of the marks as they were, up to the limit; and none above it
 module _ (s l : List ℕ) where

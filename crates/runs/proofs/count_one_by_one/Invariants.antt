@@ -1,9 +1,13 @@
--- The marks from a place on, one more at a time.
-use Rattle.runs.proofs.OneByOne.{Pairs}
+-- The pairs of the marks before a place with those after them are counted.
+use Prim.Native.Nat.{◌+◌, ◌*◌, ◌≤◌}
+use mathlib.Core.Path.{◌≡◌}
+use lib.ListN.{drop}
+use Rattle.layout.specs.Answers.{limit}
+use Rattle.runs.specs.Runs.{kinds_and_texts, pairs}
 use Rattle.runs.proofs.count_one_by_one.Given as goal
 
-abbrev pub invariant-loop-at : goal.invariant-loop-at
-invariant-loop-at l = Pairs l.s l.marks l.at l.count
-
-abbrev pub decreases-loop-at : goal.decreases-loop-at
-decreases-loop-at l = l.at
+abbrev pub invariant-loop-i : goal.invariant-loop-i
+invariant-loop-i l = record {
+  small : l.count ≤ limit * l.i;
+  is : l.count + pairs (kinds_and_texts l.s (drop l.i l.marks)) ≡ pairs (kinds_and_texts l.s l.marks);
+}

@@ -1,13 +1,16 @@
 -- The full_path of a payload stands where the walk over the fields before it ends.
-use Prim.Native.Nat.{ℕ, zero, suc, ◌+◌, ◌*◌, ◌/◌, ◌%◌, ◌≤◌, ◌<◌}
+use Prim.Native.Nat.{ℕ, zero, suc, ◌+◌, ◌≤◌, ◌<◌}
 use native.Mathlib.Nat.{add-zero}
 use native.Mathlib.Omega.{arith}
+use mathlib.Core.Bool.{Bool, true, false}
 use mathlib.Core.List.{List, [], ◌∷◌, ◌++◌, append_assoc, map}
 use mathlib.Core.Logic.{◌≢◌}
 use mathlib.Core.Path.{◌≡◌, refl, sym, ap, ◌∙◌}
 use lib.ListN.{length, get_or, drop, length-drop}
 use lib.Seq.{take-append_seam, get_or-drop}
-use borrow.Author.Tests.{leb-true, ne_eqb}
+use lib.Dec.{eqb}
+use borrow.Author.Tests.{leb-true, ne_eqb, eqb-true, eqb-false}
+use Rattle.std.specs.Prelude.{Option, Some, None}
 use Rattle.layout.specs.Layout.{Kind, Number, Leaf, plain, string, fine, wrong, unknown_kind, Value, leaves, Fits, Meets, Proper}
 use Rattle.layout.specs.Written.{four, leaf_bytes, bytes_of, bytes}
 use Rattle.layout.specs.Forms.{known, follows}
@@ -18,10 +21,10 @@ use Rattle.layout.proofs.Tables.{known_outside}
 use Rattle.raw_bytes.specs.Bytes.{number_or0}
 use Rattle.raw_bytes.proofs.Number.{number_there}
 use Rattle.section.specs.Derivation.{Item, sentinel, entity, payload, ProperItem}
-use Rattle.runs.specs.Runs.{text_from, kind_and_text}
+use Rattle.runs.specs.Runs.{text_from}
 use Rattle.paths.specs.Paths.{full_path_fields, field_of, text_of, full_path, kind_and_path}
 use Rattle.paths.specs.Theorems.{PathText, PathIsText}
-use Rattle.paths.specs.Private.{Field, T, N, after_field, after_fields, fields_before, place_by, path_place, mark_of, path_mark, marked_unless0, path_at, PayloadIn}
+use Rattle.paths.specs.Private.{Field, T, N, after_field, after_fields, fields_before, place_by, path_place, path_at, PayloadIn}
 
 -- A length that stands at a place
 length_stands : (s : List ℕ) (at n : ℕ) (r : List ℕ) → n < 4294967296 → drop at s ≡ four n ++ r → (at + 4 ≤ length s) × (number_or0 s at ≡ n)
@@ -56,16 +59,24 @@ pub place_in : (s : List ℕ) (at kind : ℕ) → get_or s at 0 ≡ kind → pat
 unfolding path_place
 place_in s at kind e = rw e
 
+-- The place by a kind that is one of two
+pub place_of_two : (s : List ℕ) (at kind n : ℕ) (place : Option ℕ) → kind ≡ get_or s at 0 → n ≤ kind → kind ≤ n + 1 → place_by fields_before s n (at + 1) ≡ place → place_by fields_before s (n + 1) (at + 1) ≡ place → path_place s at ≡ place
+place_of_two s at kind n place e h k p q = go (eqb kind n) refl
+  where
+    go : (b : Bool) → eqb kind n ≡ b → path_place s at ≡ place
+    go true f = place_in s at n (sym e ∙ eqb-true kind n f) ∙ p
+    go false f = let m : kind ≡ n → ⊥ = eqb-false kind n f in place_in s at (n + 1) (omega arith) ∙ q
+
 -- A kind is not in the table
 abbrev pub Outside : List (ℕ × List Field) → ℕ → Type 0
 Outside [] n = Unit {0}
 Outside (row ∷ rows) n = (n ≢ row.0) × Outside rows n
 
-place_by_outside : (rows : List (ℕ × List Field)) (s : List ℕ) (n at : ℕ) → Outside rows n → place_by rows s n at ≡ 0
+place_by_outside : (rows : List (ℕ × List Field)) (s : List ℕ) (n at : ℕ) → Outside rows n → place_by rows s n at ≡ None
 place_by_outside [] s n at h = refl
 place_by_outside (row ∷ rows) s n at h = rw (ne_eqb n row.0 h.0) (place_by_outside rows s n at h.1)
 
-pub place_none : (s : List ℕ) (at kind : ℕ) → kind ≡ get_or s at 0 → Outside fields_before kind → path_place s at ≡ 0
+pub place_none : (s : List ℕ) (at kind : ℕ) → kind ≡ get_or s at 0 → Outside fields_before kind → path_place s at ≡ None
 unfolding path_place
 place_none s at kind e h = rw (← e) (place_by_outside fields_before s kind (at + 1) h)
 
@@ -77,25 +88,12 @@ pub record Found (s : List ℕ) (at : ℕ) (ts : List (List ℕ)) : Type 0 where
 first_byte : (s : List ℕ) (at n : ℕ) (r : List ℕ) → drop at s ≡ n ∷ r → (at < length s) × (get_or s at 0 ≡ n)
 first_byte s at n r e = (omega (arith, ap length e, length-drop at s), rw add-zero at (sym (get_or-drop at s 0 0) ∙ ap (λ (l : List ℕ). get_or l 0 0) e))
 
-found_none : (s : List ℕ) (at kind : ℕ) (r : List ℕ) → length s ≤ limit → drop at s ≡ kind ∷ r → place_by fields_before s kind (at + 1) ≡ 0 → Found s at []
-unfolding path_at path_mark
+found_none : (s : List ℕ) (at kind : ℕ) (r : List ℕ) → length s ≤ limit → drop at s ≡ kind ∷ r → place_by fields_before s kind (at + 1) ≡ None → Found s at []
+unfolding path_at
 found_none s at kind r h e p =
     let (b, k) = first_byte s at kind r e in
-    let q : path_place s at ≡ 0 = place_in s at kind k ∙ p in
-    record { inside = record { small = h; begins = b; path = λ n. absurd (n q) }; path = rw q }
-
--- What a mark stands for that is not 0, and that of a kind and a place
-pub marked : (s : List ℕ) (mark : ℕ) → 1 ≤ mark → marked_unless0 s mark ≡ kind_and_text s mark ∷ []
-marked s zero h = absurd (omega arith)
-marked s (suc m) h = refl
-
-kind_marked : (s : List ℕ) (kind place : ℕ) → kind < 256 → 1 ≤ place → marked_unless0 s (mark_of kind place) ≡ (kind ∷ text_from s place) ∷ []
-kind_marked s kind zero h l = absurd (omega arith)
-kind_marked s kind (suc p) h l =
-    let mark : ℕ = 256 * suc p + kind in
-    let k : mark % 256 ≡ kind = omega arith in
-    let q : mark / 256 ≡ suc p = omega arith in
-    marked s mark (omega arith) ∙ rw (k, q)
+    let q : path_place s at ≡ None = place_in s at kind k ∙ p in
+    record { inside = record { small = h; begins = b; path = rw q tt }; path = rw q }
 
 text_stands : (s : List ℕ) (at : ℕ) (t r : List ℕ) → length t < 4294967296 → drop at s ≡ leaf_bytes (string t) ++ r → (at + 4 ≤ length s) × (text_from s at ≡ t)
 unfolding text_from
@@ -104,11 +102,6 @@ text_stands s at t r h e =
     let (i, k) = length_stands s at (length t) (t ++ r) h g in
     let d : drop (at + 4) s ≡ t ++ r = rest_after s at (four (length t)) (t ++ r) g in
     (i, rw (k, d) (take-append_seam t r))
-
-after_later : (s : List ℕ) (fs : List Field) (at : ℕ) → at ≤ after_fields s fs at
-after_later s [] at = omega arith
-after_later s (T ∷ fs) at = omega (arith, after_later s fs (at + 4 + number_or0 s at))
-after_later s (N ∷ fs) at = omega (arith, after_later s fs (at + 4))
 
 -- The leaves after an entity's kind, cut at its full_path
 record Cut (kind : ℕ) (ls : List Leaf) : Type 0 where
@@ -119,7 +112,7 @@ record Cut (kind : ℕ) (ls : List Leaf) : Type 0 where
   are : AreFields fields before
   fits : length text < 4294967296
   stands : ls ≡ before ++ (string text ∷ after)
-  place : (s : List ℕ) (at : ℕ) → place_by fields_before s kind at ≡ after_fields s fields at
+  place : (s : List ℕ) (at : ℕ) → place_by fields_before s kind at ≡ Some (after_fields s fields at)
   field : field_of full_path_fields kind ≡ suc (length before)
 
 -- An entity has no full_path, or its leaves are cut there
@@ -186,28 +179,28 @@ path_text v p n = go (cut_kind v.0 v.2 p.2 p.3)
     }
 
 -- The full_path stands where it is looked for
-found_cut : (s : List ℕ) (at kind : ℕ) (ls : List Leaf) (r : List ℕ) → length s ≤ limit → kind < 256 → (c : Cut kind ls) → drop at s ≡ bytes_of (plain Kind kind ∷ ls) ++ r → Found s at ((kind ∷ c.text) ∷ [])
-unfolding path_at path_mark
-found_cut s at kind ls r h l c e =
+found_cut : (s : List ℕ) (at kind : ℕ) (ls : List Leaf) (r : List ℕ) → length s ≤ limit → (c : Cut kind ls) → drop at s ≡ bytes_of (plain Kind kind ∷ ls) ++ r → Found s at ((kind ∷ c.text) ∷ [])
+unfolding path_at
+found_cut s at kind ls r h c e =
     let (b, k) = first_byte s at kind _ e in
     let end : ℕ = after_fields s c.fields (at + 1) in
-    let q : path_place s at ≡ end = place_in s at kind k ∙ c.place s (at + 1) in
+    let q : path_place s at ≡ Some end = place_in s at kind k ∙ c.place s (at + 1) in
     let x : List ℕ = leaf_bytes (string c.text) in
     let y : List ℕ = bytes_of c.after in
     let g : bytes_of ls ++ r ≡ bytes_of c.before ++ (x ++ (y ++ r)) = rw (c.stands, bytes_of_append c.before (string c.text ∷ c.after)) (append_assoc (bytes_of c.before) (x ++ y) r ∙ ap (λ (z : List ℕ). bytes_of c.before ++ z) (append_assoc x y r)) in
     let (i, u) = text_stands s end c.text (y ++ r) c.fits (after_fields_lem s (at + 1) (x ++ (y ++ r)) c.are (rest_after s at (kind ∷ []) _ e ∙ g)) in
     record {
-      inside = record { small = h; begins = b; path = λ n. rw q i };
-      path = rw (k, q, kind_marked s kind end l (omega (arith, after_later s c.fields (at + 1)))) (ap (λ (z : List ℕ). (kind ∷ z) ∷ []) u);
+      inside = record { small = h; begins = b; path = rw q i };
+      path = rw (k, q) (ap (λ (z : List ℕ). (kind ∷ z) ∷ []) u);
     }
 
-found_cutting : (s : List ℕ) (at kind : ℕ) (ls : List Leaf) (r : List ℕ) → length s ≤ limit → kind < 256 → Cutting kind ls → drop at s ≡ bytes_of (plain Kind kind ∷ ls) ++ r → Found s at (kind_and_path (plain Kind kind ∷ ls))
-found_cutting s at kind ls r h l (whole k) e = rw k (found_none s at 1 _ h (rw k at e) refl)
-found_cutting s at kind ls r h l (cut c) e = rw (path_cut kind ls c) (found_cut s at kind ls r h l c e)
+found_cutting : (s : List ℕ) (at kind : ℕ) (ls : List Leaf) (r : List ℕ) → length s ≤ limit → Cutting kind ls → drop at s ≡ bytes_of (plain Kind kind ∷ ls) ++ r → Found s at (kind_and_path (plain Kind kind ∷ ls))
+found_cutting s at kind ls r h (whole k) e = rw k (found_none s at 1 _ h (rw k at e) refl)
+found_cutting s at kind ls r h (cut c) e = rw (path_cut kind ls c) (found_cut s at kind ls r h c e)
 
 found_entity : (v : Value Entity) → Proper Entity v → (s : List ℕ) (at : ℕ) (r : List ℕ) → length s ≤ limit → drop at s ≡ bytes Entity v ++ r → Found s at (kind_and_path (leaves Entity v))
 unfolding Entity
-found_entity v p s at r h e = found_cutting s at v.0 _ r h p.0 (cut_kind v.0 v.2 p.2 p.3) e
+found_entity v p s at r h e = found_cutting s at v.0 _ r h (cut_kind v.0 v.2 p.2 p.3) e
 
 -- The kind and the full_path of an item, if it has one
 abbrev pub item_path : Item → List (List ℕ)

@@ -1,10 +1,10 @@
 -- What only the private functions of the crate promise one another. No public contract cites anything here.
-use Rattle.std.specs.Prelude.{ℕ, zero, suc, ◌+◌, ◌*◌, ◌≤◌, ◌<◌, cond, List, [], ◌∷◌, ◌++◌, ◌≡◌, eqb, length, get_or, take}
+use Rattle.std.specs.Prelude.{ℕ, ◌+◌, ◌≤◌, ◌<◌, cond, List, [], ◌∷◌, ◌++◌, ◌≡◌, eqb, length, get_or, take, Option, Some, None, IfSome}
 use Rattle.layout.specs.Answers.{limit}
 use Rattle.raw_bytes.specs.Bytes.{number_or0}
 use Rattle.section.specs.Derivation.{placed}
 use Rattle.section.specs.Rest.{Rest}
-use Rattle.runs.specs.Runs.{kind_and_text, kinds_and_texts, equals, pairs}
+use Rattle.runs.specs.Runs.{text_from, kind_and_text, kinds_and_texts, equals, pairs}
 use Rattle.paths.specs.Paths.{kinds_and_paths}
 
 -- The field of a text or a number
@@ -35,32 +35,23 @@ fields_before =
     ∷ (9, T ∷ T ∷ N ∷ T ∷ [])
     ∷ []
 
--- Where the fields before the full_path end, 0 for a kind that has none
-abbrev pub place_by : List (ℕ × List Field) → List ℕ → (kind at : ℕ) → ℕ
-place_by [] s kind at = 0
-place_by (row ∷ rows) s kind at = cond (eqb kind row.0) (after_fields s row.1 at) (place_by rows s kind at)
+-- Where the fields before the full_path end, for a kind that has one
+abbrev pub place_by : List (ℕ × List Field) → List ℕ → (kind at : ℕ) → Option ℕ
+place_by [] s kind at = None
+place_by (row ∷ rows) s kind at = cond (eqb kind row.0) (Some (after_fields s row.1 at)) (place_by rows s kind at)
 
--- The place of the full_path of the payload that begins at a place, 0 if it has none
-unfoldable pub path_place : List ℕ → ℕ → ℕ
+-- The place of the full_path of the payload that begins at a place, if it has one
+unfoldable pub path_place : List ℕ → ℕ → Option ℕ
 path_place s at = place_by fields_before s (get_or s at 0) (at + 1)
 
--- The mark of a kind and a place, 0 if the place is 0
-abbrev pub mark_of : (kind place : ℕ) → ℕ
-mark_of kind zero = 0
-mark_of kind (suc p) = 256 * suc p + kind
-
--- The mark of the payload that begins at a place, 0 if it has no full_path
-unfoldable pub path_mark : List ℕ → ℕ → ℕ
-path_mark s at = mark_of (get_or s at 0) (path_place s at)
-
--- What a mark stands for, unless it is 0
-abbrev pub marked_unless0 : List ℕ → (mark : ℕ) → List (List ℕ)
-marked_unless0 s zero = []
-marked_unless0 s (suc m) = kind_and_text s (suc m) ∷ []
+-- A kind and the text at a place, if there is a place
+abbrev pub kind_and_text_at : List ℕ → (kind : ℕ) → Option ℕ → List (List ℕ)
+kind_and_text_at s kind None = []
+kind_and_text_at s kind (Some place) = (kind ∷ text_from s place) ∷ []
 
 -- The kind and the full_path of the payload that begins at a place, if it has one
 unfoldable pub path_at : List ℕ → ℕ → List (List ℕ)
-path_at s at = marked_unless0 s (path_mark s at)
+path_at s at = kind_and_text_at s (get_or s at 0) (path_place s at)
 
 -- The kinds and the full_path texts of the entities from a boundary on
 abbrev pub paths_of : {s : List ℕ} {at : ℕ} → Rest s at → List (List ℕ)
@@ -78,7 +69,7 @@ longest = 4294967300
 pub record PayloadIn (s : List ℕ) (at : ℕ) : Type 0 where
   pub small : length s ≤ limit
   pub begins : at < length s
-  pub path : (path_place s at ≡ 0 → ⊥) → path_place s at + 4 ≤ length s
+  pub path : IfSome (path_place s at) (λ place. place + 4 ≤ length s)
 
 -- The pairs of one of some lists with one of some others
 abbrev pub pairs_with : List (List ℕ) → List (List ℕ) → ℕ
@@ -89,19 +80,22 @@ pairs_with (t ∷ ts) us = equals t us + pairs_with ts us
 abbrev pub Counts : List ℕ → (at n : ℕ) → Type 0
 Counts s at n = (w : Rest s at) → n ≡ pairs (paths_of w)
 
--- n is the number of pairs of a payload with the entries from a boundary on
-pub record CountsWith (s : List ℕ) (payload next n : ℕ) : Type 0 where
+-- n is the number of full_path texts from a boundary on that are what a mark stands for
+pub record Equals (s : List ℕ) (mark at n : ℕ) : Type 0 where
   pub small : n ≤ limit
-  pub counts : (w : Rest s next) → n ≡ pairs_with (path_at s payload) (paths_of w)
+  pub counts : (w : Rest s at) → n ≡ equals (kind_and_text s mark) (paths_of w)
 
 -- Of the full_path texts there are as many as found, and their marks stand in the work, if it has room for them
 pub record Gathered (s work : List ℕ) (found : ℕ) : Type 0 where
   pub small : found ≤ limit
   pub are : found ≤ length work → (w : Rest s 0) → kinds_and_texts s (take found work) ≡ paths_of w
 
--- After the marks found before stands that of a payload's full_path, if it has one and there is room, and it is counted
-pub record Put (s : List ℕ) (payload : ℕ) (before : List ℕ) (found : ℕ) (after : List ℕ) (more : ℕ) : Type 0 where
-  pub length_is : length after ≡ length before
-  pub least : found ≤ more
-  pub most : more ≤ found + 1
-  pub put : more ≤ length after → kinds_and_texts s (take more after) ≡ kinds_and_texts s (take found before) ++ path_at s payload
+-- From a boundary on there is no full_path
+abbrev pub NoneLeft : List ℕ → (at : ℕ) → Type 0
+NoneLeft s at = (w : Rest s at) → paths_of w ≡ []
+
+-- From a boundary on the first texts are those given, and the others follow from a later boundary on
+pub record First (s : List ℕ) (at : ℕ) (texts : List (List ℕ)) (later : ℕ) : Type 0 where
+  pub rest : Rest s later
+  pub on : at < later
+  pub are : (w : Rest s at) → paths_of w ≡ texts ++ paths_of rest

@@ -1,14 +1,14 @@
 // The path report: how many pairs of entities repeat a path.
 #![tactic(auto)]
 
-ghost use Rattle.std.specs.Prelude.{[], ◌∷◌, ◌≡◌, ◌+◌, ◌*◌, ◌<◌, ◌≤◌};
-ghost use Rattle.layout.specs.Answers.{limit};
-ghost use Rattle.runs.specs.Runs.{kind_and_text, equals};
+ghost use Rattle.std.specs.Prelude.{[], ◌∷◌, ◌≡◌, ◌+◌, ◌*◌, ◌<◌, MatchOption};
+ghost use Rattle.runs.specs.Runs.{kind_and_text};
 ghost use Rattle.section.specs.Rest.{Rest};
 ghost use Rattle.paths.specs.Paths.{report, report_of};
 ghost use Rattle.paths.specs.Repeats.{ExactReport};
-ghost use Rattle.paths.specs.Private.{T, N, after_fields, path_place, path_mark, path_at, far, longest, PayloadIn, Counts, CountsWith, Gathered, Put};
+ghost use Rattle.paths.specs.Private.{T, N, after_fields, path_place, path_at, far, longest, PayloadIn, Counts, Equals, Gathered, NoneLeft, First};
 
+use runs::Mark;
 use table::{Answer, Refusal};
 
 // The number of pairs, or a section's refusal.
@@ -51,10 +51,10 @@ fn count_pairs(s: &[u8], work: &mut [u32]) -> u64
     ensures { Counts s.now 0 result }
 {
     let found = find_paths(s, work);
-    if work.len() < found {
-        return count_one_by_one(s);
+    match work.get_mut(..found) {
+        Some(marks) => runs::equal_pairs(s, marks),
+        None => count_one_by_one(s),
     }
-    runs::equal_pairs(s, &mut work[..found])
 }
 
 // How many entities of a derived section have a full_path. The mark of each is stored in `work`, as far as there is room.
@@ -62,116 +62,105 @@ fn find_paths(s: &[u8], work: &mut [u32]) -> usize
     requires { Rest s.now 0 }
     ensures { Gathered s.now work.new result }
 {
-    let mut at: usize = 0;
+    let mut marks = Marks { s, at: 0 };
     let mut found: usize = 0;
-    let mut size = raw_bytes::number_at(s, at);
-    while size != 0 {
-        let payload = at + 4;
-        found = put_path(s, payload, work, found);
-        at = payload + size as usize;
-        size = raw_bytes::number_at(s, at);
+    while let Some(mark) = marks.next() {
+        if found < work.len() {
+            work[found] = u32::from(mark);
+        }
+        found += 1;
     }
     found
 }
 
-// Stores the mark of a payload's full_path, if it has one and there is room, after those found before, and counts it.
-fn put_path(s: &[u8], payload: usize, work: &mut [u32], found: usize) -> usize
-    requires { PayloadIn s.now payload × (found ≤ limit) }
-    ensures { Put s.now payload work.old found work.new result }
-{
-    let mark = path_mark(s, payload);
-    if mark == 0 {
-        return found;
-    }
-    if found < work.len() {
-        work[found] = mark;
-    }
-    found + 1
-}
-
-// The pairs of a derived section, one by one: each entity with those after it.
+// The pairs of a derived section, one by one: each full_path with those after it.
 fn count_one_by_one(s: &[u8]) -> u64
     requires { Rest s.now 0 }
     ensures { Counts s.now 0 result }
 {
-    let mut at: usize = 0;
+    let mut marks = Marks { s, at: 0 };
     let mut count: u64 = 0;
-    let mut size = raw_bytes::number_at(s, at);
-    while size != 0 {
-        let payload = at + 4;
-        at = payload + size as usize;
-        count += pairs_with_later(s, payload, at);
-        size = raw_bytes::number_at(s, at);
+    while let Some(mark) = marks.next() {
+        count += equals(mark, marks);
     }
     count
 }
 
-// The pairs of the entity whose payload begins at a place with the entities from a later boundary on.
-fn pairs_with_later(s: &[u8], payload: usize, next: usize) -> u64
-    requires { PayloadIn s.now payload × Rest s.now next }
-    ensures { CountsWith s.now payload next result }
+// How many of some marks have the kind and the text of one.
+fn equals(mark: Mark, mut marks: Marks) -> u64
+    requires { Rest marks.s.now marks.at }
+    ensures { Equals marks.entry.s.now mark marks.entry.at result }
 {
-    let mark = path_mark(s, payload);
-    if mark == 0 {
-        return 0;
-    }
-    let mut at = next;
     let mut count: u64 = 0;
-    let mut size = raw_bytes::number_at(s, at);
-    while size != 0 {
-        let other = at + 4;
-        count += pair(s, mark, other);
-        at = other + size as usize;
-        size = raw_bytes::number_at(s, at);
+    while let Some(other) = marks.next() {
+        count += u64::from(runs::repeats(marks.s, mark, other));
     }
     count
 }
 
-// 1 if a payload is of the kind of a mark and its full_path has the bytes of the mark's text, else 0.
-fn pair(s: &[u8], mark: u32, payload: usize) -> u64
-    requires { PayloadIn s.now payload }
-    ensures { (result ≡ equals (kind_and_text s.now mark) (path_at s.now payload)) × (result ≤ 1) }
-{
-    let other = path_mark(s, payload);
-    if other == 0 {
-        return 0;
-    }
-    if runs::repeats(s, mark, other) {
-        return 1;
-    }
-    0
+// The marks of the full_path texts of a derived section, from the boundary `at` on.
+#[derive(Clone, Copy)]
+struct Marks<'a> {
+    s: &'a [u8],
+    at: usize,
 }
 
-// The mark of a payload's kind and full_path, 0 if it has no full_path.
-fn path_mark(s: &[u8], payload: usize) -> u32
-    requires { PayloadIn s.now payload }
-    ensures { result ≡ path_mark s.now payload }
-{
-    let path = full_path(s, payload);
-    if path == 0 {
-        return 0;
+impl<'a> Marks<'a> {
+    // The next mark, if one is left.
+    fn next(&mut self) -> Option<Mark>
+        requires { Rest self.old.s.now self.old.at }
+        ensures same_section { self.new.s ≡ self.old.s }
+        ensures first { MatchOption result (NoneLeft self.old.s.now self.old.at) (λ mark. First self.old.s.now self.old.at (kind_and_text self.old.s.now mark ∷ []) self.new.at) }
+    {
+        while let Some(payload) = self.next_payload() {
+            if let Some(mark) = path_mark(self.s, payload) {
+                return Some(mark);
+            }
+        }
+        None
     }
-    let kind = raw_bytes::wide(s[payload]);
-    runs::KINDS * path as u32 + kind
+
+    // Where the next payload begins, if there is one.
+    fn next_payload(&mut self) -> Option<usize>
+        requires { Rest self.old.s.now self.old.at }
+        ensures same_section { self.new.s ≡ self.old.s }
+        ensures first { MatchOption result (NoneLeft self.old.s.now self.old.at) (λ payload. PayloadIn self.old.s.now payload × First self.old.s.now self.old.at (path_at self.old.s.now payload) self.new.at) }
+    {
+        let size = raw_bytes::number_at(self.s, self.at) as usize;
+        if size == 0 {
+            return None;
+        }
+        let payload = self.at + 4;
+        self.at = payload + size;
+        Some(payload)
+    }
 }
 
-// Where the length of a payload's full_path stands, or 0: a schema and the sentinel, which begins with 0, have none.
-fn full_path(s: &[u8], payload: usize) -> usize
+// The mark of a payload's kind and full_path, if it has one.
+fn path_mark(s: &[u8], payload: usize) -> Option<Mark>
+    requires { PayloadIn s.now payload }
+    ensures { MatchOption result (path_at s.now payload ≡ []) (λ mark. path_at s.now payload ≡ kind_and_text s.now mark ∷ []) }
+{
+    Mark::new(s[payload], full_path(s, payload)?)
+}
+
+// Where the length of a payload's full_path stands: a schema and the sentinel, which begins with 0, have none.
+fn full_path(s: &[u8], payload: usize) -> Option<usize>
     requires { PayloadIn s.now payload }
     ensures { result ≡ path_place s.now payload }
 {
-    let kind = raw_bytes::wide(s[payload]);
     let at = payload + 1;
-    match kind {
-        layout::ENTITY_CUSTOM_SQL => after_two_texts(s, at),
-        layout::ENTITY_FUNCTION => after_text(s, after_two_texts(s, at)),
-        layout::ENTITY_TYPE => after_text(s, after_name_file_line(s, at)),
-        layout::ENTITY_ENUM => after_text(s, after_name_file_line(s, at)),
-        layout::ENTITY_ORD => after_name_file_line(s, at),
-        layout::ENTITY_HASH => after_name_file_line(s, at),
-        layout::ENTITY_AGGREGATE => at,
-        layout::ENTITY_TRIGGER => after_text(s, after_name_file_line(s, at)),
-        _ => 0,
+    match u32::from(s[payload]) {
+        layout::ENTITY_CUSTOM_SQL => Some(after_two_texts(s, at)),
+        layout::ENTITY_FUNCTION => Some(after_text(s, after_two_texts(s, at))),
+        layout::ENTITY_TYPE | layout::ENTITY_ENUM => Some(after_text(
+            s,
+            after_name_file_line(s, at),
+        )),
+        layout::ENTITY_ORD | layout::ENTITY_HASH => Some(after_name_file_line(s, at)),
+        layout::ENTITY_AGGREGATE => Some(at),
+        layout::ENTITY_TRIGGER => Some(after_text(s, after_name_file_line(s, at))),
+        _ => None,
     }
 }
 

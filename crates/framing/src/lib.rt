@@ -22,23 +22,14 @@ fn all_zero(s: &[u8]) -> bool
     ensures { result ≡ all_zero s.now }
 {
     let (blocks, rest) = s.as_chunks::<BLOCK>();
-    for block in blocks {
-        if !zeros(block) {
-            return false;
-        }
-    }
-    zeros(rest)
+    blocks.iter().all(|block| zeros(block)) && zeros(rest)
 }
 
 // The same, with no early exit, so that the compiler can handle many bytes at a time.
 fn zeros(s: &[u8]) -> bool
     ensures { result ≡ all_zero s.now }
 {
-    let mut bits = 0;
-    for byte in s {
-        bits |= *byte;
-    }
-    bits == 0
+    s.iter().fold(0, |bits, byte| bits | *byte) == 0
 }
 
 // The framing alone, with the refusals 1 to 4.

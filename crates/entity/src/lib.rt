@@ -1,13 +1,18 @@
-// The nine entities.
+// The nine entities; and the reading of one payload alone.
 #![tactic(auto)]
 
+ghost use Rattle.std.specs.Prelude.{◌≡◌};
 ghost use Rattle.layout.specs.Entities.{FinalizeModify, OptionFinalizeModify};
 ghost use Rattle.layout.specs.Entities.{ParallelOption, OptionParallelOption, OptionUsedType, OptionAggregateTypeList};
 ghost use Rattle.layout.specs.Entities.{Entity, Schema, CustomSql, Function, PostgresType, PostgresEnum, OrdOrHash, Aggregate, Trigger};
+ghost use Rattle.layout.specs.Alone.{ExactAlone};
+ghost use Rattle.layout.specs.ReadAlone.{reading_alone};
+ghost use Rattle.table.specs.Answers.{result_of};
 ghost use Rattle.pass.specs.Pass.{Runs};
 
+use leaf::Reader;
 use pass::Pass;
-use table::RefusalKind;
+use table::{Counts, Refusal, RefusalKind};
 
 pub fn finalize_modify<P: Pass>(p: &mut P)
     ensures { Runs P.meaning FinalizeModify p.old p.new }
@@ -196,4 +201,14 @@ pub fn trigger<P: Pass>(p: &mut P)
     p.str(); // module_path
     p.str(); // full_path
     attribute::to_sql_config(p) // to_sql_config
+}
+
+// One payload alone: one entity, and nothing after it.
+pub fn decode_entity(payload: &[u8], t: &mut [u32]) -> Result<Counts, Refusal>
+    ensures t_after { result_of result t.new ≡ reading_alone Entity 1 payload.now t.old }
+    ensures exact_alone { ExactAlone Entity 1 payload.now t.old (result_of result t.new) }
+{
+    let mut reader = Reader::new(payload, t);
+    entity(&mut reader);
+    reader.answer_alone(1)
 }

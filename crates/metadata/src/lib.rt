@@ -1,12 +1,17 @@
-// The metadata of a type: how it maps to SQL as an argument and as a result.
+// The metadata of a type: how it maps to SQL as an argument and as a result; and the reading of one mapping or record alone.
 #![tactic(auto)]
 
+ghost use Rattle.std.specs.Prelude.{◌≡◌};
 ghost use Rattle.layout.specs.Entities.{SqlMapping, SqlArrayMapping, Numeric, Returns, SqlMappingList, ArgumentSql, ReturnSql};
 ghost use Rattle.layout.specs.Entities.{ArgumentError, ReturnsError, FunctionMetadataType, OptionResolution, Resolution, TypeOrigin};
+ghost use Rattle.layout.specs.Alone.{ExactAlone};
+ghost use Rattle.layout.specs.ReadAlone.{reading_alone};
+ghost use Rattle.table.specs.Answers.{result_of};
 ghost use Rattle.pass.specs.Pass.{Runs};
 
+use leaf::Reader;
 use pass::Pass;
-use table::RefusalKind;
+use table::{Counts, Refusal, RefusalKind};
 
 pub fn sql_mapping<P: Pass>(p: &mut P)
     ensures { Runs P.meaning SqlMapping p.old p.new }
@@ -133,4 +138,24 @@ pub fn type_origin<P: Pass>(p: &mut P)
         layout::TYPE_ORIGIN_THIS_EXTENSION..=layout::TYPE_ORIGIN_EXTERNAL => {}
         _ => p.refuse(RefusalKind::UnknownTag, begin),
     }
+}
+
+// One mapping alone, and nothing after it.
+pub fn decode_sql_mapping(s: &[u8], t: &mut [u32]) -> Result<Counts, Refusal>
+    ensures t_after { result_of result t.new ≡ reading_alone SqlMapping 0 s.now t.old }
+    ensures exact_alone { ExactAlone SqlMapping 0 s.now t.old (result_of result t.new) }
+{
+    let mut reader = Reader::new(s, t);
+    sql_mapping(&mut reader);
+    reader.answer_alone(0)
+}
+
+// One metadata record alone, and nothing after it.
+pub fn decode_function_metadata_type(s: &[u8], t: &mut [u32]) -> Result<Counts, Refusal>
+    ensures t_after { result_of result t.new ≡ reading_alone FunctionMetadataType 0 s.now t.old }
+    ensures exact_alone { ExactAlone FunctionMetadataType 0 s.now t.old (result_of result t.new) }
+{
+    let mut reader = Reader::new(s, t);
+    function_metadata_type(&mut reader);
+    reader.answer_alone(0)
 }

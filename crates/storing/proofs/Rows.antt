@@ -5,8 +5,7 @@ use mathlib.Core.Bool.{Bool, true, false, cond}
 use mathlib.Core.List.{List, [], ◌∷◌, ◌++◌}
 use mathlib.Core.Path.{◌≡◌, refl, sym, ap, ◌∙◌}
 use lib.Dec.{leb}
-use lib.ListN.{length, take, drop, length-append, length-drop}
-use lib.Seq.{length-take-le}
+use lib.ListN.{length, take, drop}
 use borrow.Author.Tests.{le-leb, lt-leb, leb-true}
 use Rattle.layout.specs.Written.{four, sort_at, offset_at, value_at}
 use Rattle.layout.specs.Answers.{whole_rows}
@@ -41,38 +40,30 @@ pub text_there : (text : List ℕ) (start size : ℕ) → leb (start + size) (le
 unfolding text_bytes
 text_there text start size e = rw e
 
-module _ (text : List ℕ) (start size at : ℕ) (dest : List ℕ) (k : at ≤ length dest) (s : Bool) (e : s ≡ leb (start + size) (length text)) where
-  -- Of one that leaves them nothing is stored
-  pub text_outside : s ≡ false → spot at dest ≡ stored_bytes (text_bytes text start size) (spot at dest)
-  unfolding text_bytes
-  text_outside h =
-      let z : at + 0 ≡ at = omega arith in
-      sym (rw (← e, h) (bytes_fit [] at dest (omega arith) ∙ rw (pasted_none dest at k, z)))
+-- Of one that leaves them nothing is stored
+pub text_outside : (text : List ℕ) (start size at : ℕ) (dest : List ℕ) → at ≤ length dest → length text < start + size → spot at dest ≡ stored_bytes (text_bytes text start size) (spot at dest)
+unfolding text_bytes
+text_outside text start size at dest k h =
+    let z : at + 0 ≡ at = omega arith in
+    rw (lt-leb (start + size) (length text) h) (sym (bytes_fit [] at dest (omega arith) ∙ rw (pasted_none dest at k, z)))
 
-  -- The others fit, or do not
-  module _ (h : s ≡ true) where
-    abbrev lent : List ℕ
-    lent = take size (drop start text)
+-- The others fit, or do not
+module _ (text : List ℕ) (start size at : ℕ) (dest bytes : List ℕ) (h : start + size ≤ length text) (e : bytes ≡ take (start + size - start) (drop start text)) where
+  whole : text_bytes text start size ≡ four size ++ bytes
+  whole = let m : start + size - start ≡ size = omega arith in text_there text start size (le-leb (start + size) (length text) h) ∙ rw (e, m)
 
-    inside : start + size ≤ length text
-    inside = leb-true _ _ (sym e ∙ h)
+  pub text_left : length dest < at + (4 + length bytes) → spot at dest ≡ stored_bytes (text_bytes text start size) (spot at dest)
+  text_left n = rw whole (sym (bytes_left (four size ++ bytes) at dest (omega arith)))
 
-    whole : text_bytes text start size ≡ four size ++ lent
-    whole = text_there text start size (sym e ∙ h)
-
-    lent_length : length lent ≡ size
-    lent_length = length-take-le size (drop start text) (omega (arith, inside, length-drop start text))
-
-    pub text_left : length dest < at + (4 + size) → spot at dest ≡ stored_bytes (text_bytes text start size) (spot at dest)
-    text_left n = rw whole (sym (bytes_left (four size ++ lent) at dest (omega (arith, lent_length, length-append (four size) lent))))
-
-    pub text_stored : at + (4 + size) ≤ length dest → (mid after : List ℕ) → mid ≡ pasted dest at (four size) → after ≡ pasted mid (at + 4) (take (start + size - start) (drop start text))
-        → spot (at + 4 + size) after ≡ stored_bytes (text_bytes text start size) (spot at dest)
-    text_stored n mid after a b =
-        let m : start + size - start ≡ size = omega arith in
-        let l : at + length (four size ++ lent) ≡ at + 4 + size = omega (arith, lent_length, length-append (four size) lent) in
-        let c : after ≡ pasted dest at (four size ++ lent) = b ∙ rw (m, a) (pasted_append dest at (four size) lent (omega (arith, lent_length))) in
-        rw (whole, c) (sym (bytes_fit (four size ++ lent) at dest (omega arith) ∙ ap (λ (j : ℕ). spot j (pasted dest at (four size ++ lent))) l))
+  pub text_stored : at + (4 + length bytes) ≤ length dest → (at₁ : ℕ) (mid after : List ℕ) → spot at₁ mid ≡ stored_bytes (four size) (spot at dest) → after ≡ pasted mid at₁ bytes
+      → spot (at + 4 + length bytes) after ≡ stored_bytes (text_bytes text start size) (spot at dest)
+  text_stored n at₁ mid after a b =
+      let m : spot at₁ mid ≡ spot (at + 4) (pasted dest at (four size)) = a ∙ bytes_fit (four size) at dest (omega arith) in
+      let p : at₁ ≡ at + 4 = ap (λ (x : Spot). x.at) m in
+      let q : mid ≡ pasted dest at (four size) = ap (λ (x : Spot). x.dest) m in
+      let l : at + length (four size ++ bytes) ≡ at + 4 + length bytes = omega arith in
+      let c : after ≡ pasted dest at (four size ++ bytes) = b ∙ rw (p, q) (pasted_append dest at (four size) bytes (omega arith)) in
+      rw (whole, c) (sym (bytes_fit (four size ++ bytes) at dest (omega arith) ∙ ap (λ (j : ℕ). spot j (pasted dest at (four size ++ bytes))) l))
 
 -- The bytes of a row
 module _ (rows text : List ℕ) (i sort : ℕ) (e : sort ≡ sort_at rows i) (n : ℕ) (v : n ≡ value_at rows i) where

@@ -16,10 +16,8 @@ pub fn store(rows: &[u32], text: &[u8], dest: &mut [u8])
     ensures { Stores rows.now text.now dest.old dest.new }
 {
     let mut at = 0;
-    let mut i = 0;
-    while i < rows.len() / ROW_WIDTH {
+    for i in 0..rows.len() / ROW_WIDTH {
         at = store_next(rows, text, dest, i, at);
-        i += 1;
     }
 }
 
@@ -57,52 +55,46 @@ fn store_payload(rows: &[u32], text: &[u8], dest: &mut [u8], first: usize, begin
     ensures dest_after { spot result.at dest.new ≡ stored_payload rows.now text.now first (spot begin dest.old) }
 {
     let mut at = store_next(rows, text, dest, first, begin);
-    let mut i = first + 1;
-    while i < rows.len() / ROW_WIDTH {
+    for i in first + 1..rows.len() / ROW_WIDTH {
         if table::row_at(rows, i).sort == layout::SORT_KIND {
             return End { row: i, at };
         }
         at = store_next(rows, text, dest, i, at);
-        i += 1;
     }
-    End { row: i, at }
+    End {
+        row: rows.len() / ROW_WIDTH,
+        at,
+    }
 }
 
 // Stores a row if it fits, and answers where the next one goes.
+#[tactic(auto, unfolding(crate::specs::Private::row_bytes, table::specs::Table::row_of))]
 fn store_next(rows: &[u32], text: &[u8], dest: &mut [u8], i: usize, at: usize) -> usize
     requires { (i < whole_rows rows.now) × (at ≤ length dest.old) }
     ensures { spot result dest.new ≡ stored_row rows.now text.now i (spot at dest.old) }
 {
     let row = table::row_at(rows, i);
     if row.sort <= layout::SORT_FLAG {
-        return store_byte(dest, row.value, at);
+        return store_bytes(dest, &[(row.value % 256) as u8], at);
     }
     if row.sort <= layout::SORT_COUNT {
-        return store_number(dest, row.value, at);
+        return store_bytes(dest, &row.value.to_le_bytes(), at);
     }
     store_text(text, dest, row, at)
 }
 
-fn store_byte(dest: &mut [u8], value: u32, at: usize) -> usize
+// Stores bytes if they fit, and answers where the next ones go.
+#[tactic(auto, unfolding(crate::specs::Private::stored_bytes, paste::specs::Pasted::pasted))]
+fn store_bytes(dest: &mut [u8], bytes: &[u8], at: usize) -> usize
     requires { at ≤ length dest.old }
-    ensures { spot result dest.new ≡ stored_bytes (value % 256 ∷ []) (spot at dest.old) }
+    ensures { spot result dest.new ≡ stored_bytes bytes.now (spot at dest.old) }
 {
-    if dest.len() <= at {
+    if dest.len() - at < bytes.len() {
         return at;
     }
-    dest[at] = (value % 256) as u8;
-    at + 1
-}
-
-fn store_number(dest: &mut [u8], value: u32, at: usize) -> usize
-    requires { at ≤ length dest.old }
-    ensures { spot result dest.new ≡ stored_bytes (four value) (spot at dest.old) }
-{
-    if dest.len() - at < 4 {
-        return at;
-    }
-    raw_bytes::put_number(dest, at, value);
-    at + 4
+    let end = at + bytes.len();
+    dest[at..end].copy_from_slice(bytes);
+    end
 }
 
 // A text is stored after its length, unless it leaves the lent bytes.
@@ -111,17 +103,15 @@ fn store_text(text: &[u8], dest: &mut [u8], row: Row, at: usize) -> usize
     ensures { spot result dest.new ≡ stored_bytes (text_bytes text.now row.offset row.value) (spot at dest.old) }
 {
     let start = row.offset as usize;
-    let size = row.value as usize;
-    if !entry_writer::stays(text, start, size) {
+    let Some(bytes) = text.get(start..start + row.value as usize) else {
+        return at;
+    };
+    if dest.len() - at < 4 + bytes.len() {
         return at;
     }
-    if dest.len() - at < 4 + size {
-        return at;
-    }
-    raw_bytes::put_number(dest, at, row.value);
-    let end = start + size;
-    paste::paste(dest, at + 4, &text[start..end]);
-    at + 4 + size
+    let after = store_bytes(dest, &row.value.to_le_bytes(), at);
+    paste::paste(dest, after, bytes);
+    at + 4 + bytes.len()
 }
 
 // Stores the length of the payload of an entry that begins and ends at given places.
@@ -129,6 +119,5 @@ fn put_length(dest: &mut [u8], begin: usize, end: usize)
     requires { begin + 4 ≤ end }
     ensures { dest.new ≡ length_stored begin end dest.old }
 {
-    let length = end - begin - 4;
-    raw_bytes::put_number(dest, begin, (length % 4294967296) as u32);
+    raw_bytes::put_number(dest, begin, ((end - begin - 4) % 4294967296) as u32);
 }

@@ -8,7 +8,4 @@ use Rattle.storing.proofs.store.Given as goal
 
 abbrev pub invariant-loop-i : goal.invariant-loop-i
 invariant-loop-i l =
-    (l.at ≤ length l.dest) × (length l.dest ≡ length l.initial.dest) × (stored_rows l.rows l.text (whole_rows l.rows) 0 (spot 0 l.initial.dest) ≡ stored_rows l.rows l.text (whole_rows l.rows - l.i) l.i (spot l.at l.dest))
-
-abbrev pub decreases-loop-i : goal.decreases-loop-i
-decreases-loop-i l = whole_rows l.rows - l.i
+    (l.at ≤ length l.dest) × (stored_rows l.rows l.text (whole_rows l.rows) 0 (spot 0 l.initial.dest) ≡ stored_rows l.rows l.text (whole_rows l.rows - l.i) l.i (spot l.at l.dest))

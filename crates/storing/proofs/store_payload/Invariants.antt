@@ -8,9 +8,6 @@ use Rattle.storing.proofs.store_payload.Given as goal
 
 abbrev pub invariant-loop-i : goal.invariant-loop-i
 invariant-loop-i l =
-    (l.initial.at ≤ l.at) × (l.at ≤ length l.dest) × (length l.dest ≡ length l.initial.dest)
+    (l.initial.at ≤ l.at) × (l.at ≤ length l.dest)
     × (next_kind l.rows (whole_rows l.rows - l.initial.i) l.initial.i ≡ next_kind l.rows (whole_rows l.rows - l.i) l.i)
     × (stored_rows l.rows l.text (next_kind l.rows (whole_rows l.rows - l.initial.i) l.initial.i - l.initial.i) l.initial.i (spot l.initial.at l.initial.dest) ≡ stored_rows l.rows l.text (next_kind l.rows (whole_rows l.rows - l.initial.i) l.initial.i - l.i) l.i (spot l.at l.dest))
-
-abbrev pub decreases-loop-i : goal.decreases-loop-i
-decreases-loop-i l = whole_rows l.rows - l.i

@@ -1,37 +1,27 @@
 -- It leaves the lent bytes, does not fit, or is stored after its length.
 use native.Mathlib.Omega.{arith}
-use Prim.Native.Nat.{◌+◌}
-use lib.ListN.{length}
-use Rattle.entry_writer.proofs.Steps.{stays_within}
+use mathlib.Core.List.{List}
+use mathlib.Core.Path.{ap, ◌∙◌}
+use Prim.Native.Nat.{ℕ}
+use Rattle.storing.specs.Private.{spot, stored_bytes}
 use Rattle.storing.proofs.Rows.{text_outside, text_left, text_stored}
 use Rattle.storing.proofs.store_text.Goals as goal
 
-pub returns-then-not-stays : goal.returns-then-not-stays
-returns-then-not-stays c =
-    let start = c in
-    let a = start.args in
-    text_outside a.text.now a.row.offset a.row.value a.at a.dest.now start.requires c.stays.result c.stays.ensures c.if-not-stays.true
+pub returns-in_default : goal.returns-in_default
+returns-in_default c =
+    let a = c.args in
+    let lookup = c.in_default.ensures.lookup in
+    text_outside a.text.now a.row.offset a.row.value a.at a.dest.now c.requires (grind arith)
 
 pub returns-then-dest-at : goal.returns-then-dest-at
 returns-then-dest-at c =
-    let start = c in
-    let a = start.args in
-    let stays = c.stays in
-    text_left a.text.now a.row.offset a.row.value a.at a.dest.now start.requires stays.result stays.ensures c.if-not-stays.false (omega (arith, c.if-dest-at.true, start.requires))
-
-pub slice_bounds-paste-end : goal.slice_bounds-paste-end
-slice_bounds-paste-end c =
     let a = c.args in
-    let stays = c.stays in
-    let if1 = c.if-not-stays in
-    stays_within stays.result (a.row.offset + a.row.value) (length a.text.now) stays.ensures if1.false
+    let lookup = c.in-Some.ensures.lookup.0 in
+    text_left a.text.now a.row.offset a.row.value a.at a.dest.now c.in-Some.bytes.now lookup.1 lookup.2 (omega arith)
 
 pub returns : goal.returns
 returns c =
-    let start = c in
-    let a = start.args in
-    let stays = c.stays in
-    let if1 = c.if-not-stays in
-    let if2 = c.if-dest-at in
-    let put = c.put_number in
-    text_stored a.text.now a.row.offset a.row.value a.at a.dest.now start.requires stays.result stays.ensures if1.false (omega (arith, if2.false, start.requires)) _ _ put.ensures c.paste.ensures
+    let a = c.args in
+    let lookup = c.in-Some.ensures.lookup.0 in
+    let size = c.store_bytes-after.ensures ∙ ap (λ (b : List ℕ). stored_bytes b (spot a.at a.dest.now)) c.to_le_bytes.ensures in
+    text_stored a.text.now a.row.offset a.row.value a.at a.dest.now c.in-Some.bytes.now lookup.1 lookup.2 (omega arith) _ _ _ size c.paste.ensures

@@ -1,7 +1,2 @@
-pub mod Rows
-pub mod Writing
-pub mod Refusals
-pub mod State
-pub mod Run
-pub mod Theorems
+pub mod EntryWriter
 pub mod Private

@@ -3,43 +3,35 @@ use Prim.Native.Nat.{◌*◌}
 use native.Mathlib.Omega.{arith}
 use lib.ListN.{length}
 use borrow.Author.Tests.{ne_eqb, eq-eqb, lt-leb, le-leb}
-use Rattle.entry_writer.specs.Run.{closing}
 use Rattle.layout.specs.Written.{row_width}
+use Rattle.writing.specs.Run.{closing}
 use Rattle.entry_writer.proofs.EntryWriter.finish.Goals as goal
+use Rattle.entry_writer.proofs.EntryWriter.finish.Goals.{then-self-via-then-self, then-self-via-else-self+then-numbers_left, then-self-via-else-self+else-numbers_left+then-rows_left}
 
-pub returns-then-self-ne0 : goal.returns-then-self-ne0
+pub returns-then-self : goal.returns-then-self
 unfolding closing
-returns-then-self-ne0 c = rw (ne_eqb _ _ c.if-self-ne0.true) c.refuse.ensures
+returns-then-self c =
+    let w = c.args.self.now in
+    rw c.at.ensures (elim c.then-self.branch [
+      | then-self-via-then-self v ↦ rw v.if-self.true
+      | then-self-via-else-self+then-numbers_left v ↦ rw (v.if-self.false, ne_eqb (row_width * w.row) (length w.rows.now) (λ h. omega arith))
+      | then-self-via-else-self+else-numbers_left+then-rows_left v ↦ rw (v.if-self.false, ne_eqb (row_width * w.row) (length w.rows.now) (λ h. omega arith))
+    ])
 
-pub returns-then-rows-ne0 : goal.returns-then-rows-ne0
+pub returns-then-self-2 : goal.returns-then-self-2
 unfolding closing
-returns-then-rows-ne0 c =
-    let args = c.args in
-    rw (eq-eqb _ _ c.if-self-ne0.false, ne_eqb (row_width * args.self.row) (length args.rows.now) (λ h. omega arith)) c.refuse-then-rows-ne0.ensures
-
-pub returns-then-self-rows : goal.returns-then-self-rows
-unfolding closing
-returns-then-self-rows c =
-    let args = c.args in
-    rw (eq-eqb _ _ c.if-self-ne0.false, ne_eqb (row_width * args.self.row) (length args.rows.now) (λ h. omega arith)) c.refuse-then-self-rows.ensures
-
-pub returns-then-self-ne0-2 : goal.returns-then-self-ne0-2
-unfolding closing
-returns-then-self-ne0-2 c =
-    let args = c.args in
-    let if1 = c.if-self-ne0 in
-    rw (eq-eqb _ _ if1.false, eq-eqb (row_width * args.self.row) (length args.rows.now) (omega arith), ne_eqb _ _ c.if-self-ne0-2.true) c.refuse-then-self-ne0-2.ensures
+returns-then-self-2 c =
+    let w = c.args.self.now in
+    rw (c.if-self.false, eq-eqb (row_width * w.row) (length w.rows.now) (omega arith), c.if-self-2.true, c.at-then-self-2.ensures)
 
 pub returns-then-self-gt-LIMIT : goal.returns-then-self-gt-LIMIT
 unfolding closing
 returns-then-self-gt-LIMIT c =
-    let args = c.args in
-    let if1 = c.if-self-ne0 in
-    rw (eq-eqb _ _ if1.false, eq-eqb (row_width * args.self.row) (length args.rows.now) (omega arith), eq-eqb _ _ c.if-self-ne0-2.false, lt-leb _ _ c.if-self-gt-LIMIT.true) c.refuse-then-self-gt-LIMIT.ensures
+    let w = c.args.self.now in
+    rw (c.if-self.false, eq-eqb (row_width * w.row) (length w.rows.now) (omega arith), c.if-self-2.false, lt-leb _ _ c.if-self-gt-LIMIT.true, c.at-then-self-gt-LIMIT.ensures)
 
 pub returns : goal.returns
 unfolding closing
 returns c =
-    let args = c.args in
-    let if1 = c.if-self-ne0 in
-    rw (eq-eqb _ _ if1.false, eq-eqb (row_width * args.self.row) (length args.rows.now) (omega arith), eq-eqb _ _ c.if-self-ne0-2.false, le-leb _ _ c.if-self-gt-LIMIT.false)
+    let w = c.args.self.now in
+    rw (c.if-self.false, eq-eqb (row_width * w.row) (length w.rows.now) (omega arith), c.if-self-2.false, le-leb _ _ c.if-self-gt-LIMIT.false)

@@ -1,31 +1,25 @@
 -- Refused, no such row, too large, or the number.
-use Rattle.entry_writer.proofs.Steps.{row_inside, refused_stays, number_none, number_large, number_taken}
-use native.Mathlib.Omega.{arith}
+use borrow.Author.Tests.{lt-ltb, le-ltb}
+use Rattle.writing.specs.State.{unless_refused}
+use Rattle.entry_writer.proofs.Steps.{row_value}
 use Rattle.entry_writer.proofs.EntryWriter.number.Goals as goal
 
-pub returns-then-self-ne0 : goal.returns-then-self-ne0
-returns-then-self-ne0 c = refused_stays _ _ c.if-self-ne0.true
+pub returns-then-self-clause-state : goal.returns-then-self-clause-state
+unfolding unless_refused
+returns-then-self-clause-state c = rw c.if-self.true
 
-pub returns-then-not-is_row : goal.returns-then-not-is_row
-returns-then-not-is_row c =
-    let args = c.args in
-    number_none args.rows.now args.self c.if-self-ne0.false _ _ args.size args.sort args.bound c.is_row.ensures c.if-not-is_row.true c.stop.ensures
+pub returns-then-not-is_row-clause-state : goal.returns-then-not-is_row-clause-state
+unfolding unless_refused
+returns-then-not-is_row-clause-state c = rw (c.if-self.false, ← c.is_row.ensures, c.if-not-is_row.true) c.stop.ensures.state
 
-pub returns-then-bound-row : goal.returns-then-bound-row
-returns-then-bound-row c =
-    let args = c.args in
-    let if1 = c.if-self-ne0 in
-    let is_row_lem = c.is_row in
-    number_large args.rows.now args.self if1.false args.size args.sort args.bound _ is_row_lem.ensures c.if-not-is_row.false _ c.row_at-row.ensures c.if-bound-row.true _ c.stop-then-bound-row.ensures
+pub returns-then-bound-row-clause-state : goal.returns-then-bound-row-clause-state
+unfolding unless_refused
+returns-then-bound-row-clause-state c =
+    let v = row_value _ _ _ c.is_row.ensures c.if-not-is_row.false c.row_at-row.ensures in
+    rw (c.if-self.false, ← c.is_row.ensures, c.if-not-is_row.false, ← v, le-ltb _ c.args.bound c.if-bound-row.true) c.stop-then-bound-row.ensures.state
 
-pub past-requires : goal.past-requires
-past-requires c =
-    let args = c.args in
-    omega (arith, row_inside args.rows.now args.self.row args.sort _ c.is_row.ensures c.if-not-is_row.false)
-
-pub returns : goal.returns
-returns c =
-    let args = c.args in
-    let if1 = c.if-self-ne0 in
-    let is_row_lem = c.is_row in
-    number_taken args.rows.now args.self if1.false args.size args.sort args.bound _ is_row_lem.ensures c.if-not-is_row.false _ c.row_at-row.ensures c.if-bound-row.false _ c.past.ensures
+pub returns-clause-state : goal.returns-clause-state
+unfolding unless_refused
+returns-clause-state c =
+    let v = row_value _ _ _ c.is_row.ensures c.if-not-is_row.false c.row_at-row.ensures in
+    rw (c.if-self.false, ← c.is_row.ensures, c.if-not-is_row.false, ← v, lt-ltb _ _ c.if-bound-row.false) (rw c.if-self.false at c.past.ensures.state)

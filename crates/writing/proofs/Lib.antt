@@ -1,0 +1,9 @@
+pub mod Along
+pub mod Still
+pub mod Spelled
+pub mod Exact
+pub mod Offsets
+pub mod Measured
+pub mod RoundTrips
+pub mod Passes
+pub mod Result

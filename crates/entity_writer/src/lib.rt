@@ -8,9 +8,9 @@ ghost use Rattle.layout.specs.Entities.{Entity, Schema, CustomSql, Function, Pos
 ghost use Rattle.layout.specs.Private.{NameFileLine, TypePaths, CustomSqlText, FunctionSignature, FunctionOrigin, FunctionOptions};
 ghost use Rattle.layout.specs.Private.{TypeFunctions, AggregateName, AggregateTypes, AggregateFunctions, MovingAggregate, AggregateOptions};
 ghost use Rattle.length.specs.Length.{length_of};
-ghost use Rattle.entry_writer.specs.Writing.{measured, write, length_in, written};
-ghost use Rattle.entry_writer.specs.Refusals.{alone, ExactLength, ExactWriting};
-ghost use Rattle.entry_writer.specs.Run.{consume};
+ghost use Rattle.writing.specs.Writing.{measured, write, length_in, written};
+ghost use Rattle.writing.specs.Refusals.{alone, ExactLength, ExactWriting};
+ghost use Rattle.writing.specs.Run.{consume};
 
 use entry_writer::EntryWriter;
 use length::Length;

@@ -24,7 +24,7 @@ use Rattle.directory.specs.Exact.{ExactDirectory, ExactHolder, in_entry, in_none
 use Rattle.directory.specs.declared.Record.{Record}
 use Rattle.elf.specs.Elf.{sh_offset, of_header, section_end}
 use Rattle.elf.specs.Finding.{ExactFinding, other_file, no_tables, no_match, no_bytes, past_end, found}
-use Rattle.entry_writer.specs.Refusals.{Form, WriteRefusal, not_spelled, bad_text, too_long, no_space}
+use Rattle.writing.specs.Refusals.{Form, WriteRefusal, not_spelled, bad_text, too_long, no_space}
 use Rattle.text.specs.Kept.{TextAnswer, text_kept, no_text, ExactCheck}
 use Rattle.table.specs.declared.Row.{Row}
 use Rattle.parts.specs.Parts.{ExactKeptName}

@@ -11,7 +11,7 @@ use Rattle.layout.specs.Entities.{OptionStr, OptionU32, StrList, Numeric, SqlArr
 use Rattle.layout.specs.Entities.{TypeOrigin, Resolution, OptionResolution, FunctionMetadataType, UsedType, OptionUsedType, PgExternArgument, PgExternArgumentList, AggregateType, AggregateTypeList, OptionAggregateTypeList, PgExternReturn, ExternArg, ExternArgList, SearchPath, Operator, OptionOperator, Cast, OptionCast}
 use Rattle.layout.specs.Entities.{DeclaredSql, DeclaredType, SqlDeclared, SqlDeclaredList, FinalizeModify, OptionFinalizeModify, ParallelOption, OptionParallelOption, Schema, CustomSql, Function, PostgresType, PostgresEnum, OrdOrHash, Aggregate, Trigger, entity_kinds, Entity}
 use Rattle.layout.proofs.Each.{Each, each_join}
-use Rattle.entry_writer.specs.Refusals.{Along}
+use Rattle.writing.specs.Refusals.{Along}
 use Rattle.storing.specs.Storing.{NoKind, KindFirst}
 
 -- Not the sort of a kind

@@ -3,9 +3,9 @@ use native.Mathlib.Omega.{arith}
 use mathlib.Core.Path.{◌≡◌, ap, ◌∙◌}
 use lib.ListN.{length}
 use Rattle.layout.specs.Answers.{whole_rows}
-use Rattle.entry_writer.proofs.Spelled.{spelled_complete}
-use Rattle.entry_writer.proofs.Exact.{writes_all, writes_only, refuses_exact}
-use Rattle.entry_writer.proofs.Offsets.{written_alike}
+use Rattle.writing.proofs.Spelled.{spelled_complete}
+use Rattle.writing.proofs.Exact.{writes_all, writes_only, refuses_exact}
+use Rattle.writing.proofs.Offsets.{written_alike}
 use Rattle.section_writer.specs.Form.{section_bytes, section}
 use Rattle.section_writer.specs.Writing.{entities_in, spelled_entities, measured_section, write_section}
 use Rattle.section_writer.specs.Theorems.{SectionWritten, SectionRefused, EntitiesUnique, SectionOffsetFree}

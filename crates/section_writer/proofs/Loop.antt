@@ -5,7 +5,7 @@ use mathlib.Core.List.{List}
 use mathlib.Core.Path.{◌≡◌, sym, ap, ◌∙◌}
 use borrow.Author.Tests.{eq-eqb, ne_eqb, le-leb, lt-leb}
 use Rattle.layout.specs.Answers.{whole_rows}
-use Rattle.entry_writer.specs.State.{stopped_once}
+use Rattle.writing.specs.State.{stopped_once}
 use Rattle.entry_writer.specs.declared.EntryWriter.{EntryWriter}
 use Rattle.section_writer.specs.Private.{consume_entry, consume_entities}
 

@@ -16,22 +16,22 @@ use Rattle.layout.proofs.InBytes.{bytes_of_append}
 use Rattle.layout.proofs.Each.{Each, each_part, each_join, each_of, meets_each}
 use Rattle.section.specs.Derivation.{entity, ProperItems}
 use Rattle.section.specs.Demand3.{Good}
-use Rattle.entry_writer.specs.Rows.{in_rows}
-use Rattle.entry_writer.specs.State.{new_writer, stopped_once, length_taken}
+use Rattle.writing.specs.Rows.{in_rows}
+use Rattle.writing.specs.State.{new_writer, stopped_once, length_taken}
 use Rattle.entry_writer.specs.declared.EntryWriter.{EntryWriter}
 use Rattle.table.specs.Answers.{Total, counted, uncounted}
-use Rattle.entry_writer.specs.Run.{closing}
-use Rattle.entry_writer.specs.Writing.{length_in, written}
-use Rattle.entry_writer.specs.Writing as writing
-use Rattle.entry_writer.specs.Refusals.{RowGives, Sized, Writable, ExactLength, ExactWriting}
+use Rattle.writing.specs.Run.{closing}
+use Rattle.writing.specs.Writing.{length_in, written}
+use Rattle.writing.specs.Writing as writing
+use Rattle.writing.specs.Refusals.{RowGives, Sized, Writable, ExactLength, ExactWriting}
 use Rattle.storing.specs.Storing.{Gives, KindsFirst, entries_of, StoresEntries}
-use Rattle.entry_writer.proofs.Along.{along_also}
-use Rattle.entry_writer.proofs.Spelled.{spells_given, fitting}
-use Rattle.entry_writer.proofs.Measured.{Stands, Reached, arrives, halts, reached_as, stands_length, stands_new, consumed}
+use Rattle.writing.proofs.Along.{along_also}
+use Rattle.writing.proofs.Spelled.{spells_given, fitting}
+use Rattle.writing.proofs.Measured.{Stands, Reached, arrives, halts, reached_as, stands_length, stands_new, consumed}
 use Rattle.section_writer.specs.Form.{section_of, section_bytes, section_leaves, EachAllowed, section}
 use Rattle.section_writer.specs.Writing.{entities_in, spelled_entities, measured_section, write_section}
 use Rattle.section_writer.specs.Private.{consume_entry, consume_entities}
-use Rattle.entry_writer.proofs.Passes.{length_passed, refusal_passed, bytes_passed}
+use Rattle.writing.proofs.Passes.{length_passed, refusal_passed, bytes_passed}
 use Rattle.section_writer.proofs.EntityKinds.{kind_first}
 use Rattle.section_writer.proofs.Spelled.{takes_section}
 

@@ -21,11 +21,11 @@ use Rattle.section.specs.Derivation.{Item, sentinel, entity, Derivation, payload
 use Rattle.section.specs.Section.{reading}
 use Rattle.section.specs.Demand3.{Good}
 use Rattle.section.proofs.Section.{section_complete}
-use Rattle.entry_writer.specs.Refusals.{Writable}
-use Rattle.entry_writer.specs.Theorems.{ReadsBack}
-use Rattle.entry_writer.proofs.Along.{along_join}
-use Rattle.entry_writer.proofs.Spelled.{whole_rows_lem}
-use Rattle.entry_writer.proofs.RoundTrips.{Holds, HoldAll, rows_hold, fits_sized, hold_spells, hold_good, returned}
+use Rattle.writing.specs.Refusals.{Writable}
+use Rattle.writing.specs.Theorems.{ReadsBack}
+use Rattle.writing.proofs.Along.{along_join}
+use Rattle.writing.proofs.Spelled.{whole_rows_lem}
+use Rattle.writing.proofs.RoundTrips.{Holds, HoldAll, rows_hold, fits_sized, hold_spells, hold_good, returned}
 use Rattle.section_writer.specs.Form.{section_of, section_bytes, section_leaves, EachAllowed, section}
 use Rattle.section_writer.specs.Theorems.{entity_values, ReadSection, SectionRewritten, SectionBack}
 use Rattle.section_writer.proofs.Exact.{section_written, entities_unique}

@@ -12,10 +12,10 @@ use Rattle.layout.specs.Entities.{Entity}
 use Rattle.layout.specs.Reading.{ok, ◌>>=◌, walk}
 use Rattle.layout.specs.Answers.{whole_rows}
 use Rattle.layout.proofs.Walk.{All, given, refused, all_bind}
-use Rattle.entry_writer.specs.Rows.{in_rows}
-use Rattle.entry_writer.specs.Refusals.{Sized}
-use Rattle.entry_writer.proofs.Along.{along_join, along_part}
-use Rattle.entry_writer.proofs.Spelled.{There, Given, Begins, Takes, walk_sound, walk_complete}
+use Rattle.writing.specs.Rows.{in_rows}
+use Rattle.writing.specs.Refusals.{Sized}
+use Rattle.writing.proofs.Along.{along_join, along_part}
+use Rattle.writing.proofs.Spelled.{There, Given, Begins, Takes, walk_sound, walk_complete}
 use Rattle.section_writer.specs.Form.{section_leaves, EachAllowed, section}
 use Rattle.section_writer.specs.Writing.{entities_in}
 use Rattle.section_writer.proofs.EntityKinds.{kind_first}

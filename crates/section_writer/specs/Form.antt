@@ -4,7 +4,7 @@ use Rattle.layout.specs.Layout.{Leaf, Value, leaves, Meets}
 use Rattle.layout.specs.Entities.{Entity}
 use Rattle.section.specs.Derivation.{Derivation, entity, entries}
 use Rattle.section.specs.Demand3.{Good}
-use Rattle.entry_writer.specs.Refusals.{Sized, Form}
+use Rattle.writing.specs.Refusals.{Sized, Form}
 use Rattle.storing.specs.Storing.{joined}
 
 -- The derivation of entities without sentinel and padding

@@ -2,8 +2,8 @@
 use Rattle.std.specs.Prelude.{ℕ, zero, suc, cond, List, eqb, leb}
 use Rattle.layout.specs.Entities.{Entity}
 use Rattle.layout.specs.Answers.{whole_rows}
-use Rattle.entry_writer.specs.State.{stopped_once, length_taken}
-use Rattle.entry_writer.specs.Run.{consume}
+use Rattle.writing.specs.State.{stopped_once, length_taken}
+use Rattle.writing.specs.Run.{consume}
 use Rattle.entry_writer.specs.declared.EntryWriter.{EntryWriter}
 
 -- The rows of one entity, after the length of its entry

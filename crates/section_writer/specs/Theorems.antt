@@ -8,8 +8,8 @@ use Rattle.layout.specs.Answers.{accepted, Result, whole_rows}
 use Rattle.section.specs.Derivation.{Item, sentinel, entity, Derivation, sentinels}
 use Rattle.section.specs.Section.{reading}
 use Rattle.section.specs.Demand3.{Good}
-use Rattle.entry_writer.specs.Refusals.{Spells, Writable, WriteRefusal}
-use Rattle.entry_writer.specs.Theorems.{SameRow, ReadsBack}
+use Rattle.writing.specs.Refusals.{Spells, Writable, WriteRefusal}
+use Rattle.writing.specs.Theorems.{SameRow, ReadsBack}
 use Rattle.section_writer.specs.Form.{section_bytes, section}
 use Rattle.section_writer.specs.Writing.{write_section}
 

@@ -5,8 +5,8 @@ use Rattle.layout.specs.Layout.{Value}
 use Rattle.layout.specs.Entities.{Entity}
 use Rattle.layout.specs.Reading.{Outcome, ok, refuse, ◌>>=◌, walk}
 use Rattle.layout.specs.Answers.{whole_rows}
-use Rattle.entry_writer.specs.Rows.{in_rows}
-use Rattle.entry_writer.specs.Writing.{wholly, measured_as, within}
+use Rattle.writing.specs.Rows.{in_rows}
+use Rattle.writing.specs.Writing.{wholly, measured_as, within}
 use Rattle.section_writer.specs.Form.{section_bytes}
 
 -- One entity or more, from row i on up to the last row; at most n of them

@@ -4,8 +4,8 @@
 ghost use Rattle.std.specs.Prelude.{◌≡◌, length};
 ghost use Rattle.layout.specs.Answers.{whole_rows};
 ghost use Rattle.length.specs.Length.{length_of};
-ghost use Rattle.entry_writer.specs.Writing.{length_in, written};
-ghost use Rattle.entry_writer.specs.Refusals.{ExactLength, ExactWriting};
+ghost use Rattle.writing.specs.Writing.{length_in, written};
+ghost use Rattle.writing.specs.Refusals.{ExactLength, ExactWriting};
 ghost use Rattle.section_writer.specs.Form.{section};
 ghost use Rattle.section_writer.specs.Writing.{measured_section, write_section};
 ghost use Rattle.section_writer.specs.Private.{consume_entities};

@@ -13,9 +13,9 @@ use Rattle.layout.specs.Written.{four, bytes_of}
 use Rattle.layout.specs.Answers.{limit, whole_rows}
 use Rattle.layout.proofs.Each.{Each, each_part}
 use Rattle.paste.specs.Pasted.{pasted}
-use Rattle.entry_writer.specs.Refusals.{RowGives, Sized}
-use Rattle.entry_writer.proofs.Along.{along_part, along_at, along_each, along_map, along_also}
-use Rattle.entry_writer.proofs.Spelled.{There, Given, given_there, good_sound, all_good}
+use Rattle.writing.specs.Refusals.{RowGives, Sized}
+use Rattle.writing.proofs.Along.{along_part, along_at, along_each, along_map, along_also}
+use Rattle.writing.proofs.Spelled.{There, Given, given_there, good_sound, all_good}
 use Rattle.storing.specs.Private.{Spot, spot, is_kind, next_kind, entity_end, stored_payload, length_stored}
 use Rattle.storing.specs.Storing.{NoKind, KindFirst, KindsFirst, joined, entries_of, StoresEntries}
 use Rattle.storing.proofs.Rows.{next_here, next_past, next_none}

@@ -6,12 +6,12 @@ use lib.ListN.{length}
 use Rattle.layout.specs.Layout.{Layout, Value, leaves}
 use Rattle.layout.proofs.Each.{each_of}
 use Rattle.table.specs.Answers.{Total, counted}
-use Rattle.entry_writer.specs.Writing.{spelled, measured, write, fitting, length_in}
-use Rattle.entry_writer.specs.Refusals.{RowGives, Sized, alone, Spells}
-use Rattle.entry_writer.proofs.Along.{along_also}
-use Rattle.entry_writer.proofs.Spelled.{takes_alone}
-use Rattle.entry_writer.proofs.Exact.{proper_alone}
-use Rattle.entry_writer.proofs.Passes.{Encoded, bytes_passed}
+use Rattle.writing.specs.Writing.{spelled, measured, write, fitting, length_in}
+use Rattle.writing.specs.Refusals.{RowGives, Sized, alone, Spells}
+use Rattle.writing.proofs.Along.{along_also}
+use Rattle.writing.proofs.Spelled.{takes_alone}
+use Rattle.writing.proofs.Exact.{proper_alone}
+use Rattle.writing.proofs.Passes.{Encoded, bytes_passed}
 use Rattle.storing.specs.Storing.{Gives, Stores}
 
 -- Rows that spell a value give its leaves

@@ -15,12 +15,12 @@ use Rattle.layout.specs.Answers.{whole_rows}
 use Rattle.layout.proofs.Each.{Each}
 use Rattle.paste.specs.Pasted.{pasted}
 use Rattle.paste.proofs.Pasted.{pasted_fits}
-use Rattle.entry_writer.specs.Rows.{lent_at, stays_at, good_at}
+use Rattle.writing.specs.Rows.{lent_at, stays_at, good_at}
 use Rattle.storing.specs.Private.{row_bytes, Spot, spot, stored_bytes, stored_row, stored_rows}
-use Rattle.entry_writer.specs.Refusals.{RowGives, Sized}
+use Rattle.writing.specs.Refusals.{RowGives, Sized}
 use Rattle.storing.specs.Storing.{Stores}
-use Rattle.entry_writer.proofs.Along.{along_each, along_map}
-use Rattle.entry_writer.proofs.Spelled.{There, Given, given_there, good_sound, all_good}
+use Rattle.writing.proofs.Along.{along_each, along_map}
+use Rattle.writing.proofs.Spelled.{There, Given, given_there, good_sound, all_good}
 use Rattle.storing.proofs.Rows.{bytes_fit, bytes_one, bytes_four, bytes_text, text_there}
 
 pub pasted_after : (a r b : List ℕ) → length b ≤ length r → pasted (a ++ r) (length a) b ≡ (a ++ b) ++ drop (length b) r

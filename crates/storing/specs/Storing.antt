@@ -3,7 +3,7 @@ use Rattle.std.specs.Prelude.{ℕ, ◌*◌, ◌≤◌, List, [], ◌∷◌, ◌+
 use Rattle.layout.specs.Layout.{Kind, Leaf, plain, string}
 use Rattle.layout.specs.Written.{four, bytes_of, row_width}
 use Rattle.layout.specs.Answers.{limit}
-use Rattle.entry_writer.specs.Refusals.{RowGives, Along, Sized, GoodTexts}
+use Rattle.writing.specs.Refusals.{RowGives, Along, Sized, GoodTexts}
 
 -- The rows give leaves: they are whole rows, one for each leaf, and the leaf's number fits
 pub record Gives (rows text : List ℕ) (ls : List Leaf) : Type 0 where

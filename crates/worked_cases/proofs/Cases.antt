@@ -14,7 +14,7 @@ use Rattle.layout.specs.Reading.{walk, utf8, read_value, read, refuse}
 use Rattle.layout.specs.Answers.{limit}
 use Rattle.layout.specs.ReadAlone.{read_alone, reading_alone}
 use Rattle.layout.specs.Theorems.{Bytes}
-use Rattle.entry_writer.specs.Writing.{wholly, spelled, measured_as, within, measured, write}
+use Rattle.writing.specs.Writing.{wholly, spelled, measured_as, within, measured, write}
 use Rattle.section.specs.Derivation.{Derivation, derive, ProperItems}
 use Rattle.framing.specs.Framing.{boundary, boundaries, framing_from, framing}
 use Rattle.section.specs.Refusals.{SectionRefusal}

@@ -8,7 +8,7 @@ use Rattle.layout.specs.Entities.{Entity, Schema, FunctionMetadataType, OptionRe
 use Rattle.layout.specs.Reading.{ok}
 use Rattle.layout.specs.Alone.{Derives}
 use Rattle.layout.specs.ReadAlone.{reading_alone}
-use Rattle.entry_writer.specs.Writing.{write}
+use Rattle.writing.specs.Writing.{write}
 use Rattle.section.specs.Derivation.{Item, sentinel, entity, Derivation}
 use Rattle.section.specs.Refusals.{SectionRefusal}
 use Rattle.section.specs.Demand3.{Good}

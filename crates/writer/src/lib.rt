@@ -7,9 +7,9 @@ ghost use Rattle.layout.specs.Entities.{SqlMapping, SqlArrayMapping, Numeric, Re
 ghost use Rattle.layout.specs.Forms.{times};
 ghost use Rattle.layout.specs.Entities.{ArgumentError, ReturnsError, FunctionMetadataType, OptionResolution, Resolution, TypeOrigin};
 ghost use Rattle.length.specs.Length.{length_of};
-ghost use Rattle.entry_writer.specs.Writing.{measured, write, length_in, written};
-ghost use Rattle.entry_writer.specs.Refusals.{alone, ExactLength, ExactWriting};
-ghost use Rattle.entry_writer.specs.Run.{consume};
+ghost use Rattle.writing.specs.Writing.{measured, write, length_in, written};
+ghost use Rattle.writing.specs.Refusals.{alone, ExactLength, ExactWriting};
+ghost use Rattle.writing.specs.Run.{consume};
 
 use entry_writer::EntryWriter;
 use length::Length;

@@ -1,7 +1,7 @@
 -- The answer of the measuring, in numbers.
 use mathlib.Core.Path.{ap, ◌∙◌}
 use Rattle.layout.specs.Entities.{Entity}
-use Rattle.entry_writer.specs.Refusals.{alone, ExactLength}
+use Rattle.writing.specs.Refusals.{alone, ExactLength}
 use Rattle.packing.specs.Numbers.{length_numbers}
 use Rattle.pgrxsc.proofs.Numbers.{length_told_lem}
 use Rattle.pgrxsc.proofs.pgrxsc_payload_len.Goals as goal

@@ -1,6 +1,6 @@
 -- The answer of the measuring, in numbers.
 use mathlib.Core.Path.{ap, ◌∙◌}
-use Rattle.entry_writer.specs.Refusals.{ExactLength}
+use Rattle.writing.specs.Refusals.{ExactLength}
 use Rattle.section_writer.specs.Form.{section}
 use Rattle.packing.specs.Numbers.{length_numbers}
 use Rattle.pgrxsc.proofs.Numbers.{length_told_lem}

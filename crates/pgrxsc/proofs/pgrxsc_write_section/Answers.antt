@@ -1,6 +1,6 @@
 -- The answer of the writing, in numbers.
 use mathlib.Core.Path.{ap, ◌∙◌}
-use Rattle.entry_writer.specs.Refusals.{ExactWriting}
+use Rattle.writing.specs.Refusals.{ExactWriting}
 use Rattle.section_writer.specs.Form.{section}
 use Rattle.packing.specs.Numbers.{length_numbers}
 use Rattle.pgrxsc.proofs.Numbers.{length_told_lem}

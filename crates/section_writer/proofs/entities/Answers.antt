@@ -2,7 +2,7 @@
 use native.Mathlib.Omega.{arith}
 use mathlib.Core.Path.{refl, sym, ap, ◌∙◌}
 use Rattle.layout.specs.Entities.{Entity}
-use Rattle.entry_writer.specs.Run.{consume}
+use Rattle.writing.specs.Run.{consume}
 use Rattle.section_writer.proofs.Loop.{entities_refused, entities_last, entities_more, entities_none}
 use Rattle.section_writer.proofs.entities.Goals as goal
 

@@ -1,6 +1,6 @@
 -- A pass over the rows finds the length.
 use Rattle.layout.specs.Entities.{ArgumentSql}
-use Rattle.entry_writer.proofs.Passes.{first_pass}
+use Rattle.writing.proofs.Passes.{first_pass}
 use Rattle.writer.proofs.argument_sql_len.Goals as goal
 
 pub returns : goal.returns

@@ -2,7 +2,7 @@
 use mathlib.Core.Path.{ap}
 use Rattle.layout.specs.Entities.{FunctionMetadataType}
 use Rattle.length.specs.Length.{length_of}
-use Rattle.entry_writer.proofs.Passes.{refused_whole}
+use Rattle.writing.proofs.Passes.{refused_whole}
 use Rattle.storing.proofs.Passes.{second_pass}
 use Rattle.writer.proofs.encode_function_metadata_type.Goals as goal
 

@@ -1,6 +1,6 @@
 -- A pass over the rows finds the length.
 use Rattle.layout.specs.Entities.{Returns}
-use Rattle.entry_writer.proofs.Passes.{first_pass}
+use Rattle.writing.proofs.Passes.{first_pass}
 use Rattle.writer.proofs.returns_len.Goals as goal
 
 pub returns : goal.returns

@@ -6,8 +6,8 @@ use mathlib.Core.Path.{sym, ap}
 use Rattle.layout.specs.Entities.{SqlMapping}
 use Rattle.layout.specs.Forms.{times}
 use Rattle.layout.proofs.Forms.{loop_on, loop_end}
-use Rattle.entry_writer.specs.Run.{consume}
-use Rattle.entry_writer.proofs.Still.{loop_refused}
+use Rattle.writing.specs.Run.{consume}
+use Rattle.writing.proofs.Still.{loop_refused}
 use Rattle.writer.proofs.sql_mappings.Goals as goal
 
 pub loop-i-init : goal.loop-i-init

@@ -3,7 +3,7 @@ use Prim.Native.Nat.{◌-◌}
 use mathlib.Core.Path.{◌≡◌}
 use Rattle.layout.specs.Entities.{SqlMapping}
 use Rattle.layout.specs.Forms.{times}
-use Rattle.entry_writer.specs.Run.{consume}
+use Rattle.writing.specs.Run.{consume}
 use Rattle.writer.proofs.sql_mappings.Given as goal
 
 abbrev pub invariant-loop-i : goal.invariant-loop-i

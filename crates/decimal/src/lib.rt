@@ -1,8 +1,8 @@
 // The digits of a number in base ten.
 #![tactic(auto)]
 
-ghost use Rattle.std.specs.Prelude.{◌++◌, ◌≡◌, ◌%◌, take};
-ghost use Rattle.decimal.specs.Decimal.{digit, decimal};
+ghost use Rattle.std.specs.Prelude.{◌++◌, ◌≡◌, take};
+ghost use Rattle.decimal.specs.Decimal.{decimal};
 
 use fixed_text::FixedText;
 
@@ -25,12 +25,5 @@ pub fn push_decimal<const N: usize>(text: &mut FixedText<N>, n: u64)
     if 10 <= n {
         push_decimal(text, n / 10);
     }
-    text.push(last_digit(n))
-}
-
-// The last digit of n, as ASCII.
-fn last_digit(n: u64) -> u8
-    ensures { result ≡ digit (n % 10) }
-{
-    b'0' + (n % 10) as u8
+    text.push(b'0' + (n % 10) as u8)
 }

@@ -1,12 +1,18 @@
 -- One line of three words.
-use native.Mathlib.Omega.{arith}
+use Rattle.std.proofs.Common.{◌∙◌, arith}
+use Rattle.std.proofs.lemmas.List.{take_all}
+use Rattle.decimal.specs.Ascii.{ascii}
+use Rattle.table.specs.Answers.{number_of}
 use Rattle.listing.specs.Listing.{refusal_line}
-use Rattle.listing.proofs.Lines.{refuse_put}
-use Rattle.listing.proofs.Places.{put_start}
+use Rattle.listing.specs.Private.{most_line}
+use Rattle.listing.proofs.Lines.{word_fits}
+use Rattle.listing.proofs.Places.{put_first}
 use Rattle.listing.proofs.list_refusal.Goals as goal
 
 pub returns : goal.returns
 returns c =
-    let a = c.args in
-    let e = put_start (refusal_line a.refusal.number a.refusal.place) a.out.now _ _ (refuse_put _ _ _ _ _ c.wide.ensures.0 c.put_counts.ensures.0) in
-    record { value = e.0; out_after = e.1; upper_bound = omega (arith, c.put_counts.ensures.1) }
+    let r = c.args.refusal in
+    let l = refusal_line (number_of r.kind) r.place in
+    let f = word_fits (ascii "refuse") (number_of r.kind) r.place (omega arith) (omega arith) (omega arith) in
+    let e = put_first l _ _ _ _ (c.as_slice.ensures.text ∙ c.line-line.ensures ∙ rw (c.from.ensures, c.number.ensures) (take_all most_line l f)) c.put.ensures in
+    record { value = e.size; out_after = e.holds; upper_bound = omega (arith, e.size, f) }

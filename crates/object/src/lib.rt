@@ -6,24 +6,19 @@ ghost use Rattle.table.specs.Answers.{result_of};
 ghost use Rattle.listing.specs.Listing.{most_listed, at_start};
 ghost use Rattle.object.specs.Object.{object_reading, ExactObject, object_listing};
 
-use place::PartPlace;
-use table::Answer;
+use table::{Counts, Refusal};
 
 // The most bytes of a file whose section is listed.
 pub const MOST_OBJECT: usize = 4194304;
 
 // Finds the section of a file with a name, and reads it through a lent table. If there is none, the table is set to 0.
-pub fn decode_object(file: &[u8], name: &[u8], table: &mut [u32]) -> Answer
+pub fn decode_object(file: &[u8], name: &[u8], table: &mut [u32]) -> Result<Counts, Refusal>
     ensures table_after { result_of result table.new ≡ object_reading file.now name.now table.old }
     ensures exact_object { ExactObject file.now name.now table.old (result_of result table.new) }
 {
-    let found = elf::place_section(file, name);
-    match found {
-        PartPlace::Refused(refusal) => table::refuse(table, refusal.number, refusal.place),
-        PartPlace::Part { start, len } => {
-            let part = place::part(file, start, len);
-            section::decode_entities(part, table)
-        }
+    match elf::place_section(file, name) {
+        Ok(part) => section::decode_entities(part.of(file), table),
+        Err(refusal) => table::refuse(table, refusal.kind, refusal.place),
     }
 }
 
@@ -36,9 +31,8 @@ pub fn object_listing(file: &[u8], name: &[u8], out: &mut [u8]) -> usize
     if MOST_OBJECT < file.len() {
         return listing::list_long(out);
     }
-    let found = elf::place_section(file, name);
-    match found {
-        PartPlace::Refused(refusal) => listing::list_refusal(refusal, out),
-        PartPlace::Part { start, len } => listing::listing(place::part(file, start, len), out),
+    match elf::place_section(file, name) {
+        Ok(part) => listing::listing(part.of(file), out),
+        Err(refusal) => listing::list_refusal(refusal, out),
     }
 }

@@ -54,8 +54,8 @@ impl<'a> Reader<'a> {
         self.at = at;
     }
 
-    // The reader is refused: its position is the place of the refusal.
-    fn stop(&mut self, kind: RefusalKind, place: usize)
+    // The reader is refused, whatever it read: its position is the place of the refusal.
+    pub fn stop(&mut self, kind: RefusalKind, place: usize)
         ensures lent { lent_of self.new ≡ lent_of self.old }
         ensures state { state_of self.new ≡ stop (number_of kind) place (state_of self.old) }
     {

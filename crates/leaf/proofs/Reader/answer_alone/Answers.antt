@@ -1,6 +1,7 @@
 -- Too many bytes, or the answer at the end.
+use mathlib.Core.Path.{ap, ◌∙◌}
 use borrow.Author.Tests.{lt-leb, le-leb}
-use Rattle.reading.specs.Answered.{answered_alone}
+use Rattle.reading.specs.Answered.{answered, answered_alone}
 use Rattle.leaf.proofs.Reader.answer_alone.Goals as goal
 
 pub returns-then-self-gt-LIMIT-clause-answer : goal.returns-then-self-gt-LIMIT-clause-answer
@@ -9,4 +10,4 @@ returns-then-self-gt-LIMIT-clause-answer c = rw (lt-leb _ _ c.if-self-gt-LIMIT.t
 
 pub returns-clause-answer : goal.returns-clause-answer
 unfolding answered_alone
-returns-clause-answer c = rw (le-leb _ _ c.if-self-gt-LIMIT.false, ← c.finish.ensures.state) c.answer.ensures.answer
+returns-clause-answer c = rw (le-leb _ _ c.if-self-gt-LIMIT.false) (c.answer.ensures.answer ∙ ap (answered c.args.entities) c.finish.ensures.state)

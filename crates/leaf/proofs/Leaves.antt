@@ -7,8 +7,8 @@ use mathlib.Core.Path.{◌≡◌, refl, sym, ◌∙◌}
 use lib.ListN.{length, take, drop, length-drop}
 use lib.Seq.{length-take-le}
 use lib.Dec.{eqb, leb}
-use borrow.Author.Tests.{eq-eqb, ne_eqb, lt-leb, le-leb, eqb-true, leb-true}
-use Rattle.std.specs.Prelude.{Option, Some, None}
+use borrow.Author.Tests.{eq-eqb, ne_eqb, lt-leb, le-leb, eqb-true, eqb-false, leb-true}
+use Rattle.std.specs.Prelude.{Option, Some, None, ◌↔◌}
 use Rattle.std.specs.Option.{is_some}
 use Rattle.std.proofs.lemmas.Bool.{false≢true}
 use Rattle.table.specs.declared.RefusalKind.{RefusalKind}
@@ -111,3 +111,11 @@ module _ (s : List ℕ) (st : ReadState) (n : ℕ) (e : n ≡ number_at s st.cur
     text_right u =
         let l : length (take x (drop (at + 4) s)) ≡ x = length-take-le x (drop (at + 4) s) (omega (arith, length-drop (at + 4) s)) in
         rw (le-leb (at + 4) (length s) h, ← e, le-leb (at + 4 + n) (length s) k, ← q, u, l)
+
+-- A reader is not refused if its test says so
+pub not_refused : {b : Bool} (r : Reader) → (b ≡ true) ↔ (refusal_number r.refusal ≡ 0 → ⊥) → b ≡ false → refusal_number r.refusal ≡ 0
+not_refused r h e = go (eqb (refusal_number r.refusal) 0) refl
+  where
+    go : (a : Bool) → eqb (refusal_number r.refusal) 0 ≡ a → refusal_number r.refusal ≡ 0
+    go true k = eqb-true _ _ k
+    go false k = absurd (false≢true (sym e ∙ h.1 (eqb-false _ _ k)))

@@ -18,9 +18,9 @@ use Rattle.section.specs.Private.{Reads}
 use Rattle.section.proofs.Demand3.{reading_meets}
 use Rattle.section.proofs.Entries.{answers}
 
--- Both clauses, from the first
-pub promised : (s table : List ℕ) (r : Result) → Bytes s → r ≡ reading s table → (r ≡ reading s table) × Demand3 s table r
-promised s table r u e = (e, subst (λ (x : Result). Demand3 s table x) (sym e) (reading_meets s u table))
+-- The second clause, from the first
+pub promised : (s table : List ℕ) (r : Result) → Bytes s → r ≡ reading s table → Demand3 s table r
+promised s table r u e = subst (λ (x : Result). Demand3 s table x) (sym e) (reading_meets s u table)
 
 -- A section whose framing is refused
 pub refused_section : (s : List ℕ) → length s ≤ limit → (n p : ℕ) → framing_end s ≡ refuse n p → read_section s ≡ refuse n p

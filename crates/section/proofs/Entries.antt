@@ -17,9 +17,8 @@ use Rattle.layout.specs.ReadAlone.{through_table}
 use Rattle.layout.specs.Theorems.{Bytes}
 use Rattle.layout.proofs.Walk.{all_ok}
 use Rattle.layout.proofs.InBytes.{read_sound}
-use Rattle.leaf.specs.declared.Cursor.{Cursor}
 use Rattle.raw_bytes.specs.Bytes.{number_or0, same}
-use Rattle.reading.specs.State.{ReadState, read_state, new_cursor, seek, finished_at, stopped}
+use Rattle.reading.specs.State.{Cursor, ReadState, read_state, new_cursor, finished_at, stopped}
 use Rattle.reading.specs.Run.{run}
 use Rattle.reading.specs.Answered.{answered}
 use Rattle.reading.specs.Theorems.{arrive_all, Follows}
@@ -313,12 +312,12 @@ reads_refused o (stops h) n = rw (h.0, h.2)
 
 -- One entry, from the results of the code's calls: n is its length, b whether it is the sentinel
 module _ (s : List ℕ) (g : Stage) (n : ℕ) (q : n ≡ number_or0 s g.state.cursor.at) (b : Bool) (e : b ≡ same (drop (g.state.cursor.at + 4) (take (g.state.cursor.at + 4 + n) s)) sentinel_bytes) where
-  pub entry_sentinel : b ≡ true → (c : Cursor) → c ≡ seek (g.state.cursor.at + 4 + n) g.state.cursor → stage (read_state c g.state.table) g.entities ≡ past_entry s g
+  pub entry_sentinel : b ≡ true → (r : ReadState) → r ≡ seeks (g.state.cursor.at + 4 + n) g.state → stage r g.entities ≡ past_entry s g
   unfolding past_entry
-  entry_sentinel k c w = rw (← q, ← e, k, w)
+  entry_sentinel k r w = rw (← q, ← e, k, w)
 
-  pub entry_entity : b ≡ false → (c : Cursor) → c ≡ seek (g.state.cursor.at + 4) g.state.cursor → (r : ReadState) → r ≡ run Entity (take (g.state.cursor.at + 4 + n) s) (read_state c g.state.table)
-      → (d : Cursor) → d ≡ finished_at (g.state.cursor.at + 4 + n) r.cursor → stage (read_state d r.table) (g.entities + 1) ≡ past_entry s g
+  pub entry_entity : b ≡ false → (c : ReadState) → c ≡ seeks (g.state.cursor.at + 4) g.state → (r : ReadState) → r ≡ run Entity (take (g.state.cursor.at + 4 + n) s) c
+      → (d : ReadState) → d ≡ read_state (finished_at (g.state.cursor.at + 4 + n) r.cursor) r.table → stage d (g.entities + 1) ≡ past_entry s g
   unfolding past_entry
   entry_entity k c w r v d y =
       let i : run Entity (take (g.state.cursor.at + 4 + n) s) (seeks (g.state.cursor.at + 4) g.state) ≡ r = sym (v ∙ rw w) in

@@ -4,5 +4,6 @@ pub mod Refusals
 pub mod Demand3
 pub mod Rest
 pub mod Entries
+pub mod Reached
 pub mod Next
 pub mod Decode

@@ -5,9 +5,10 @@ use Rattle.layout.specs.Answers.{limit}
 use Rattle.raw_bytes.specs.Bytes.{number_or0, same}
 use Rattle.reading.specs.State.{ReadState, read_state, seek, finished_at}
 use Rattle.reading.specs.Run.{run}
+use Rattle.leaf.specs.Reader.{state_of}
 use Rattle.framing.specs.Entries.{sentinel_bytes}
 use Rattle.framing.specs.Places.{entry_end}
-use Rattle.section.specs.declared.Progress.{Progress}
+use Rattle.leaf.specs.declared.Reader.{Reader}
 
 -- What is read so far, with the table
 pub record Stage : Type 0 where
@@ -19,8 +20,8 @@ abbrev pub stage : ReadState → (entities : ℕ) → Stage
 stage st n = record { state = st; entities = n }
 
 -- What the code has read so far, with its table
-abbrev pub staged : Progress → List ℕ → Stage
-staged p table = stage (read_state p.cursor table) p.entities
+abbrev pub staged : Reader → (entities : ℕ) → Stage
+staged reader n = stage (state_of reader) n
 
 -- A state at another place
 abbrev pub seeks : (at : ℕ) → ReadState → ReadState

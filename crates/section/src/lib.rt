@@ -8,119 +8,105 @@ ghost use Rattle.raw_bytes.specs.Bytes.{number_or0};
 ghost use Rattle.table.specs.Answers.{result_of};
 ghost use Rattle.section.specs.Section.{reading};
 ghost use Rattle.section.specs.Demand3.{Demand3};
+ghost use Rattle.reading.specs.State.{read_state, new_cursor};
+ghost use Rattle.leaf.specs.Reader.{lent_of, state_of};
 ghost use Rattle.section.specs.Entry.{staged, past_entry, read_entry};
 ghost use Rattle.section.specs.Private.{Walks};
 
-use framing::Framed;
 use layout::LIMIT;
-use leaf::Cursor;
-use table::Answer;
+use leaf::Reader;
+use pass::Pass;
+use table::{Counts, Refusal, RefusalKind};
 
-// The reading so far: the cursor, and the number of entities.
+// The boundary up to which the framing is known to be good, and the number of entities before it.
 #[derive(Clone, Copy)]
-pub struct Progress {
-    pub cursor: Cursor,
-    pub entities: usize,
-}
-
-// The reading so far, and the boundary up to which the framing is known to be good.
-#[derive(Drop)]
 struct Walk {
-    progress: Progress,
     at: usize,
+    entities: usize,
 }
 
-// One entry, at the cursor: the sentinel, which yields nothing, or an entity. Nothing is read after a refusal, if there is no
-// whole entry, if there are too many bytes, or after too many entities.
-pub fn read_entry(p: Progress, s: &[u8], t: &mut [u32]) -> Progress
-    ensures { staged result t.new ≡ read_entry s.now (staged p t.old) }
+// One entry, at the reader's place, after a number of entities: the sentinel, which yields nothing, or an entity. Nothing is read
+// after a refusal, if there is no whole entry, if there are too many bytes, or after too many entities.
+pub fn read_entry(reader: &mut Reader, entities: usize) -> usize
+    ensures lent { lent_of reader.new ≡ lent_of reader.old }
+    ensures stage { staged reader.new result ≡ read_entry reader.old.s.now (staged reader.old entities) }
 {
-    let cursor = p.cursor;
-    if cursor.refusal != 0 {
-        return p;
+    if reader.is_refused() {
+        return entities;
     }
-    if LIMIT < s.len() {
-        return p;
+    if LIMIT < reader.s.len() {
+        return entities;
     }
-    if LIMIT < p.entities {
-        return p;
+    if LIMIT < entities {
+        return entities;
     }
-    if framing::entry_end(s, cursor.at) <= cursor.at {
-        return p;
+    if framing::entry_end(reader.s, reader.at) <= reader.at {
+        return entities;
     }
-    read_whole_entry(p, s, t)
+    read_whole_entry(reader, entities)
 }
 
-// The same, if there is a whole entry.
-fn read_whole_entry(p: Progress, s: &[u8], t: &mut [u32]) -> Progress
-    requires fact_1 { p.cursor.at + 4 + number_or0 s.now p.cursor.at ≤ length s.now }
-    requires fact_2 { length s.now ≤ limit }
-    requires fact_3 { p.entities ≤ limit }
-    requires fact_4 { Bytes s.now }
-    ensures { staged result t.new ≡ past_entry s.now (staged p t.old) }
+// The same, if there is a whole entry. An entity's reader sees no byte after the entry.
+fn read_whole_entry(reader: &mut Reader, entities: usize) -> usize
+    requires whole { reader.old.at + 4 + number_or0 reader.old.s.now reader.old.at ≤ length reader.old.s.now }
+    requires small { length reader.old.s.now ≤ limit }
+    requires few { entities ≤ limit }
+    ensures lent { lent_of reader.new ≡ lent_of reader.old }
+    ensures stage { staged reader.new result ≡ past_entry reader.old.s.now (staged reader.old entities) }
 {
-    let c = p.cursor;
-    let entities = p.entities;
-    let begin = c.at + 4;
-    let end = begin + raw_bytes::number_at(s, c.at) as usize;
+    let s = reader.s;
+    let begin = reader.at + 4;
+    let end = begin + raw_bytes::number_at(s, reader.at) as usize;
     if framing::is_sentinel(&s[begin..end]) {
-        return Progress {
-            cursor: c.seek(end),
-            entities,
-        };
+        reader.seek(end);
+        return entities;
     }
-    let c = entity::read_entity(c.seek(begin), &s[..end], t);
-    Progress {
-        cursor: c.finish(end),
-        entities: entities + 1,
-    }
+    reader.seek(begin);
+    reader.s = &s[..end];
+    entity::entity(reader);
+    reader.s = s;
+    reader.finish(end);
+    entities + 1
 }
 
 // Entry after entry, as long as there are whole ones, or up to the first refusal. The framing after that is not checked yet.
-fn read_entries(s: &[u8], t: &mut [u32]) -> Walk
-    requires fact_1 { length s.now ≤ limit }
-    requires fact_2 { Bytes s.now }
-    ensures { Walks s.now t.old result.at (staged result.progress t.new) }
+fn read_entries(reader: &mut Reader) -> Walk
+    requires small { length reader.old.s.now ≤ limit }
+    requires bytes { Bytes reader.old.s.now }
+    requires start { state_of reader.old ≡ read_state new_cursor reader.old.t.now }
+    ensures lent { lent_of reader.new ≡ lent_of reader.old }
+    ensures stage { Walks reader.old.s.now reader.old.t.now result.at (staged reader.new result.entities) }
 {
-    let mut p = Progress {
-        cursor: Cursor::new(),
-        entities: 0,
-    };
+    let s = reader.s;
+    let mut entities = 0;
     let mut at = 0;
     let mut end = framing::entry_end(s, at);
     while at < end {
-        p = read_whole_entry(p, s, t);
-        let c = p.cursor;
-        if c.refusal != 0 {
-            return Walk {
-                progress: p,
-                at: end,
-            };
+        entities = read_whole_entry(reader, entities);
+        if reader.refusal.is_some() {
+            return Walk { at: end, entities };
         }
         at = end;
         end = framing::entry_end(s, at);
     }
-    Walk { progress: p, at }
+    Walk { at, entities }
 }
 
 // The whole reading. On acceptance the table has the rows, then only 0; after a refusal it is all 0. The format has the whole
 // framing checked before any payload is read. Here, in one pass, the entries are read as they are found, and the framing after
 // them is checked afterwards: if it is refused, that is the answer, whatever the entries gave. The answer is proved to be the
 // same.
-pub fn decode_entities(section: &[u8], table: &mut [u32]) -> Answer
+pub fn decode_entities(section: &[u8], table: &mut [u32]) -> Result<Counts, Refusal>
     ensures table_after { result_of result table.new ≡ reading section.now table.old }
     ensures demand3 { Demand3 section.now table.old (result_of result table.new) }
 {
     if LIMIT < section.len() {
-        return table::refuse(table, 1, 0);
+        return table::refuse(table, RefusalKind::InputTooLong, 0);
     }
-    let walk = read_entries(section, table);
-    match framing::framing_from(section, walk.at) {
-        Framed::Refused(refusal) => table::refuse(table, refusal.number, refusal.place),
-        Framed::Whole { end: _ } => {
-            let p = walk.progress;
-            let c = p.cursor;
-            c.answer(table, p.entities)
-        }
+    let mut reader = Reader::new(section, table);
+    let walk = read_entries(&mut reader);
+    if let Err(refusal) = framing::framing_from(section, walk.at) {
+        reader.stop(refusal.kind, refusal.place);
     }
+    reader.answer(walk.entities)
 }

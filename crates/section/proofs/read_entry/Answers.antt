@@ -1,37 +1,39 @@
 -- The tests that come first, or one entry.
-use Rattle.section.proofs.Next.{entry_refused, entry_too_long, entry_too_many, entry_none, entry_some}
-use Rattle.framing.proofs.Entries.{whole_here}
-use Rattle.section.specs.Entry.{staged}
 use native.Mathlib.Omega.{arith}
 use mathlib.Core.Path.{sym, ◌∙◌}
+use Rattle.framing.proofs.Entries.{whole_here}
+use Rattle.section.specs.Entry.{staged}
+use Rattle.leaf.proofs.Leaves.{not_refused}
+use Rattle.section.proofs.Next.{entry_refused, entry_too_long, entry_too_many, entry_none, entry_some}
 use Rattle.section.proofs.read_entry.Goals as goal
 
-pub returns-then-cursor-ne0 : goal.returns-then-cursor-ne0
-returns-then-cursor-ne0 c =
-    let args = c.args in
-    sym (entry_refused args.s.now (staged args.p args.t.now) c.if-cursor-ne0.true)
+pub returns-then-is_refused-clause-stage : goal.returns-then-is_refused-clause-stage
+returns-then-is_refused-clause-stage c =
+    let p = c.args.reader.now in
+    sym (entry_refused p.s.now (staged p c.args.entities) (c.is_refused.ensures.0 c.if-is_refused.true))
 
-pub returns-then-s-gt-LIMIT : goal.returns-then-s-gt-LIMIT
-returns-then-s-gt-LIMIT c =
-    let args = c.args in
-    sym (entry_too_long args.s.now (staged args.p args.t.now) c.if-cursor-ne0.false c.if-s-gt-LIMIT.true)
+pub returns-then-reader-gt-LIMIT-clause-stage : goal.returns-then-reader-gt-LIMIT-clause-stage
+returns-then-reader-gt-LIMIT-clause-stage c =
+    let p = c.args.reader.now in
+    sym (entry_too_long p.s.now (staged p c.args.entities) (not_refused p c.is_refused.ensures c.if-is_refused.false) c.if-reader-gt-LIMIT.true)
 
-pub returns-then-p-gt-LIMIT : goal.returns-then-p-gt-LIMIT
-returns-then-p-gt-LIMIT c =
-    let args = c.args in
-    sym (entry_too_many args.s.now (staged args.p args.t.now) c.if-cursor-ne0.false c.if-s-gt-LIMIT.false c.if-p-gt-LIMIT.true)
+pub returns-then-entities-gt-LIMIT-clause-stage : goal.returns-then-entities-gt-LIMIT-clause-stage
+returns-then-entities-gt-LIMIT-clause-stage c =
+    let p = c.args.reader.now in
+    sym (entry_too_many p.s.now (staged p c.args.entities) (not_refused p c.is_refused.ensures c.if-is_refused.false) c.if-reader-gt-LIMIT.false c.if-entities-gt-LIMIT.true)
 
-pub returns-then-entry_end-cursor : goal.returns-then-entry_end-cursor
-returns-then-entry_end-cursor c =
-    let args = c.args in
-    sym (entry_none args.s.now (staged args.p args.t.now) c.if-cursor-ne0.false c.if-s-gt-LIMIT.false c.if-p-gt-LIMIT.false (omega (arith, c.if-entry_end-cursor.true, c.entry_end.ensures)))
+pub returns-then-entry_end-reader-clause-stage : goal.returns-then-entry_end-reader-clause-stage
+returns-then-entry_end-reader-clause-stage c =
+    let p = c.args.reader.now in
+    sym (entry_none p.s.now (staged p c.args.entities) (not_refused p c.is_refused.ensures c.if-is_refused.false) c.if-reader-gt-LIMIT.false c.if-entities-gt-LIMIT.false (omega (arith, c.if-entry_end-reader.true, c.entry_end.ensures)))
 
-pub read_whole_entry-requires : goal.read_whole_entry-requires
-read_whole_entry-requires c =
-    let args = c.args in
-    record { fact_1 = (whole_here args.s.now args.p.cursor.at (omega (arith, c.if-entry_end-cursor.false, c.entry_end.ensures))).2; fact_2 = c.if-s-gt-LIMIT.false; fact_3 = c.if-p-gt-LIMIT.false; fact_4 = λ i h. omega (arith, c.type_inv.s i) }
+pub read_whole_entry-requires-clause-whole : goal.read_whole_entry-requires-clause-whole
+read_whole_entry-requires-clause-whole c =
+    let p = c.args.reader.now in
+    (whole_here p.s.now p.at (omega (arith, c.if-entry_end-reader.false, c.entry_end.ensures))).2
 
-pub returns : goal.returns
-returns c =
-    let args = c.args in
-    c.read_whole_entry.ensures ∙ sym (entry_some args.s.now (staged args.p args.t.now) c.if-cursor-ne0.false c.if-s-gt-LIMIT.false c.if-p-gt-LIMIT.false (omega (arith, c.if-entry_end-cursor.false)))
+pub returns-clause-stage : goal.returns-clause-stage
+returns-clause-stage c =
+    let p = c.args.reader.now in
+    c.read_whole_entry.ensures.stage
+    ∙ sym (entry_some p.s.now (staged p c.args.entities) (not_refused p c.is_refused.ensures c.if-is_refused.false) c.if-reader-gt-LIMIT.false c.if-entities-gt-LIMIT.false (omega (arith, c.if-entry_end-reader.false)))

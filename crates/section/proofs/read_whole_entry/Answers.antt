@@ -1,37 +1,26 @@
 -- The sentinel, or an entity.
-use Rattle.section.proofs.Entries.{entry_sentinel, entry_entity}
-use Rattle.section.specs.Entry.{staged}
-use Rattle.framing.proofs.Sentinels.{payload_test}
-use lib.Seq.{length-take-le}
-use mathlib.Core.Path.{sym}
-use native.Mathlib.Omega.{arith}
 use Prim.Native.Nat.{◌+◌}
+use native.Mathlib.Omega.{arith}
+use Rattle.framing.proofs.Sentinels.{payload_test}
+use Rattle.leaf.specs.Reader.{state_of}
+use Rattle.section.specs.Entry.{staged}
+use Rattle.section.proofs.Entries.{entry_sentinel, entry_entity}
 use Rattle.section.proofs.read_whole_entry.Goals as goal
 
-pub returns-then-is_sentinel : goal.returns-then-is_sentinel
-returns-then-is_sentinel c =
-    let args = c.args in
-    let pre = c.requires in
-    let s = args.s.now in
-    let at = args.p.cursor.at in
+pub returns-then-is_sentinel-clause-stage : goal.returns-then-is_sentinel-clause-stage
+returns-then-is_sentinel-clause-stage c =
+    let p = c.args.reader.now in
+    let s = p.s.now in
+    let at = p.at in
     let n = c.number_at in
-    let test = payload_test s (at + 4) (at + 4 + n.result) (omega arith) (omega (arith, pre.fact_1)) _ c.is_sentinel.ensures.value in
-    entry_sentinel s (staged args.p args.t.now) _ n.ensures _ test c.if-is_sentinel.true _ c.seek.ensures
+    let test = payload_test s (at + 4) (at + 4 + n.result) (omega arith) (omega (arith, c.requires.whole)) _ c.is_sentinel.ensures.value in
+    entry_sentinel s (staged p c.args.entities) _ n.ensures _ test c.if-is_sentinel.true (state_of c.seek.new.self) c.seek.ensures.state
 
-pub slice_bounds-read_entity-end : goal.slice_bounds-read_entity-end
-slice_bounds-read_entity-end c =
-    sym (length-take-le _ _ (omega (arith, c.number_at.ensures, c.requires.fact_1)))
-
-pub overflow_add-result : goal.overflow_add-result
-overflow_add-result c =
-    omega (arith, c.requires.fact_3)
-
-pub returns : goal.returns
-returns c =
-    let args = c.args in
-    let pre = c.requires in
-    let s = args.s.now in
-    let at = args.p.cursor.at in
+pub returns-clause-stage : goal.returns-clause-stage
+returns-clause-stage c =
+    let p = c.args.reader.now in
+    let s = p.s.now in
+    let at = p.at in
     let n = c.number_at in
-    let test = payload_test s (at + 4) (at + 4 + n.result) (omega arith) (omega (arith, pre.fact_1)) _ c.is_sentinel.ensures.value in
-    entry_entity s (staged args.p args.t.now) _ n.ensures _ test c.if-is_sentinel.false _ c.seek-2.ensures _ c.read_entity-c.ensures _ c.finish.ensures
+    let test = payload_test s (at + 4) (at + 4 + n.result) (omega arith) (omega (arith, c.requires.whole)) _ c.is_sentinel.ensures.value in
+    entry_entity s (staged p c.args.entities) _ n.ensures _ test c.if-is_sentinel.false (state_of c.seek-2.new.self) c.seek-2.ensures.state (state_of c.entity.new.p) c.entity.ensures.state (state_of c.finish.new.self) c.finish.ensures.state

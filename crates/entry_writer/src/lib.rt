@@ -20,6 +20,7 @@ use table::{Refusal, RefusalKind};
 // The state of a writing: the rows and the text bytes that it is lent; `row`, the next row; `pos`, the length so far, which stops
 // just above the limit; `value`, the value of the row before; whether it is refused; and whether a text row was bad. A refused
 // writer takes no more rows.
+#[derive(Drop)]
 pub struct EntryWriter<'a> {
     rows: &'a [u32],
     text: &'a [u8],

@@ -1,9 +1,0 @@
--- A pass over the rows finds the length.
-use Rattle.layout.specs.Entities.{ReturnSql}
-use Rattle.writing.proofs.Passes.{first_pass}
-use Rattle.writer.proofs.return_sql_len.Goals as goal
-
-pub returns : goal.returns
-returns c =
-    let told = first_pass ReturnSql _ _ _ _ _ c.new.ensures c.return_sql-w.ensures c.finish.ensures in
-    record { result_value = told.0; exact_length = told.1 }

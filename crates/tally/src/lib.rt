@@ -5,24 +5,21 @@ ghost use Rattle.std.specs.Prelude.{◌≡◌};
 ghost use Rattle.table.specs.Answers.{answer_of, result_of};
 ghost use Rattle.section.specs.Section.{reading};
 ghost use Rattle.section.specs.Demand3.{Demand3};
-ghost use Rattle.tally.specs.Tally.{one_more, no_readings, tallied};
+ghost use Rattle.tally.specs.Tally.{no_readings, tallied};
 
-use table::Answer;
-
-// Where a count stops.
-const MOST: u32 = 4294967295;
+use table::{Counts, Refusal};
 
 // How many readings were accepted, and how many refused.
-#[derive(Clone, Copy)]
+#[derive(Clone, Copy, Debug, Default, PartialEq, Eq)]
 pub struct Tally {
     pub accepted: u32,
     pub refused: u32,
 }
 
 // An answer, and the tally after it.
-#[derive(Clone, Copy)]
+#[derive(Clone, Copy, Debug, PartialEq, Eq)]
 pub struct Tallied {
-    pub answer: Answer,
+    pub answer: Result<Counts, Refusal>,
     pub tally: Tally,
 }
 
@@ -31,27 +28,21 @@ impl Tally {
     pub fn new() -> Tally
         ensures { result ≡ no_readings }
     {
-        Tally {
-            accepted: 0,
-            refused: 0,
-        }
+        Tally::default()
     }
 
-    // The tally with one more answer.
-    pub fn count(self, answer: Answer) -> Tally
+    // The tally with one more answer. A count stops at the greatest number.
+    pub fn count(self, answer: Result<Counts, Refusal>) -> Tally
         ensures { result ≡ tallied self (answer_of answer) }
     {
         match answer {
-            Answer::Accepted {
-                entities: _,
-                rows: _,
-            } => Tally {
-                accepted: one_more(self.accepted),
-                refused: self.refused,
+            Ok(_) => Tally {
+                accepted: self.accepted.saturating_add(1),
+                ..self
             },
-            Answer::Refused(_) => Tally {
-                accepted: self.accepted,
-                refused: one_more(self.refused),
+            Err(_) => Tally {
+                refused: self.refused.saturating_add(1),
+                ..self
             },
         }
     }
@@ -68,14 +59,4 @@ pub fn decode_entities_tallied(section: &[u8], table: &mut [u32], tally: Tally) 
         answer,
         tally: tally.count(answer),
     }
-}
-
-// A count increased by one, unless it has stopped.
-fn one_more(count: u32) -> u32
-    ensures { result ≡ one_more count }
-{
-    if count < MOST {
-        return count + 1;
-    }
-    MOST
 }

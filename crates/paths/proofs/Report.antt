@@ -5,12 +5,16 @@ use mathlib.Core.List.{List}
 use mathlib.Core.Path.{◌≡◌, refl, sym, ap, ◌∙◌}
 use lib.Dec.{leb}
 use Rattle.layout.specs.Reading.{Outcome, ok, refuse}
-use Rattle.layout.specs.Answers.{Result, whole_rows}
+use Rattle.layout.specs.Answers.{whole_rows}
 use Rattle.layout.specs.Theorems.{Bytes}
 use Rattle.layout.proofs.Walk.{all_ok}
 use Rattle.layout.proofs.Alone.{never_accepts, only_thirteen}
-use Rattle.table.specs.Answers.{answer_of, result_of, counted, uncounted}
-use Rattle.table.specs.declared.Answer.TheVariants.{Accepted, Refused}
+use Rattle.std.specs.Prelude.{Result, Ok, Err}
+use Rattle.table.specs.Answers.{number_of, answer_of, result_of, counted, uncounted}
+use Rattle.std.proofs.lemmas.Grind.{common_steps}
+use Rattle.table.specs.declared.Counts.{Counts}
+use Rattle.table.specs.declared.RefusalKind.{RefusalKind}
+use Rattle.table.specs.declared.RefusalKind.TheVariants.{TableTooSmall}
 use Rattle.table.specs.declared.Refusal.{Refusal}
 use Rattle.section.specs.Derivation.{Derivation, Placed, total_leaves, given_of, entities_of}
 use Rattle.section.specs.Section.{read_section, reading}
@@ -22,9 +26,8 @@ use Rattle.section.proofs.Demand3.{refusal_numbered}
 use Rattle.section.proofs.Rest.{rest_whole}
 use Rattle.runs.specs.Runs.{pairs}
 use Rattle.paths.specs.Paths.{kinds_and_paths, report}
-use Rattle.paths.specs.Private.{Counts}
+use Rattle.paths.specs.Private as private
 use Rattle.layout.specs.Answers as answers
-use Rattle.table.specs.declared.Answer as declared
 
 pub report_derived : (s : List ℕ) (d : Derivation) → Good s d → report s ≡ counted (pairs (kinds_and_paths (entities_of d)))
 unfolding report
@@ -44,40 +47,44 @@ derived_thirteen : (s : List ℕ) (es : List Placed) (end : ℕ) → read_sectio
 unfolding reading
 derived_thirteen s es end e table n p q = only_thirteen (leb (total_leaves es) (whole_rows table)) (given_of es) table n p (rw e at q)
 
+-- The refusal of 13
+thirteen : (kind : RefusalKind) → number_of kind ≡ 13 → kind ≡ TableTooSmall
+thirteen kind e = grind (arith, common_steps)
+
 -- No refusal of 1 to 12 is met
-abbrev pub Passes : declared.Answer → Type 0
-Passes (Accepted entities rows) = Unit {0}
-Passes (Refused refusal) = refusal.number ≡ 13
+abbrev pub Passes : Result Counts Refusal → Type 0
+Passes (Ok counts) = Unit {0}
+Passes (Err refusal) = refusal.kind ≡ TableTooSmall
 
 -- From the answer r of the reading through any table
-module _ (s : List ℕ) (u : Bytes s) (table after : List ℕ) (r : declared.Answer) (e : result_of r after ≡ reading s table) where
-  answer_read : (v : declared.Answer) → r ≡ v → (reading s table).answer ≡ answer_of v
-  answer_read v q = sym (ap (λ (x : Result). x.answer) e) ∙ ap answer_of q
+module _ (s : List ℕ) (u : Bytes s) (table after : List ℕ) (r : Result Counts Refusal) (e : result_of r after ≡ reading s table) where
+  answer_read : (v : Result Counts Refusal) → r ≡ v → (reading s table).answer ≡ answer_of v
+  answer_read v q = sym (ap (λ (x : answers.Result). x.answer) e) ∙ ap answer_of q
 
-  derived : (v : declared.Answer) → r ≡ v → Passes v → (d : Derivation) × Good s d
+  derived : (v : Result Counts Refusal) → r ≡ v → Passes v → (d : Derivation) × Good s d
   derived v q h = go (read_section s) refl v (answer_read v q) h
     where
-      go : (m : Outcome ℕ (List Placed)) → read_section s ≡ m → (v : declared.Answer) → (reading s table).answer ≡ answer_of v → Passes v → (d : Derivation) × Good s d
+      go : (m : Outcome ℕ (List Placed)) → read_section s ≡ m → (v : Result Counts Refusal) → (reading s table).answer ≡ answer_of v → Passes v → (d : Derivation) × Good s d
       go (ok es end) k v q h = let d = all_ok (section_sound s u) k in (d.0, d.1)
-      go (refuse n p) k (Accepted entities rows) q h =
+      go (refuse n p) k (Ok counts) q h =
           never_accepts (sym q ∙ answer_is s n p k table)
-      go (refuse n p) k (Refused refusal) q h =
-          let j : n ≡ refusal.number = ap (λ (a : answers.Answer). a.number) (sym (answer_is s n p k table) ∙ q) in
-          absurd (omega (arith, refusal_numbered s n p ((refusal_exact s u n p).0 k)))
+      go (refuse n p) k (Err refusal) q h =
+          let j : n ≡ number_of refusal.kind = ap (λ (a : answers.Answer). a.number) (sym (answer_is s n p k table) ∙ q) in
+          absurd (omega (arith, ap number_of h, refusal_numbered s n p ((refusal_exact s u n p).0 k)))
 
-  pub passed : (v : declared.Answer) → r ≡ v → Passes v → Rest s 0
+  pub passed : (v : Result Counts Refusal) → r ≡ v → Passes v → Rest s 0
   passed v q h = let (d, g) = derived v q h in rest_whole s d g
 
-  pub report_passed : (v : declared.Answer) → r ≡ v → Passes v → (n : ℕ) → Counts s 0 n → counted n ≡ report s
+  pub report_passed : (v : Result Counts Refusal) → r ≡ v → Passes v → (n : ℕ) → private.Counts s 0 n → counted n ≡ report s
   report_passed v q h n k = let (d, g) = derived v q h in ap counted (k (rest_whole s d g)) ∙ sym (report_derived s d g)
 
-  pub report_stopped : (x : Refusal) → r ≡ Refused x → (x.number ≡ 13 → ⊥) → uncounted x.number x.place ≡ report s
+  pub report_stopped : (x : Refusal) → r ≡ Err x → (x.kind ≡ TableTooSmall → ⊥) → uncounted (number_of x.kind) x.place ≡ report s
   report_stopped x q h = go (read_section s) refl
     where
-      go : (m : Outcome ℕ (List Placed)) → read_section s ≡ m → uncounted x.number x.place ≡ report s
-      go (ok es end) k = absurd (h (derived_thirteen s es end k table x.number x.place (answer_read (Refused x) q)))
+      go : (m : Outcome ℕ (List Placed)) → read_section s ≡ m → uncounted (number_of x.kind) x.place ≡ report s
+      go (ok es end) k = absurd (h (thirteen x.kind (derived_thirteen s es end k table (number_of x.kind) x.place (answer_read (Err x) q))))
       go (refuse m t) k =
-          let e = sym (answer_read (Refused x) q) ∙ answer_is s m t k table in
-          let i : x.number ≡ m = ap (λ (a : answers.Answer). a.number) e in
+          let e = sym (answer_read (Err x) q) ∙ answer_is s m t k table in
+          let i : number_of x.kind ≡ m = ap (λ (a : answers.Answer). a.number) e in
           let j : x.place ≡ t = ap (λ (a : answers.Answer). a.place) e in
           rw (i, j) (sym (report_refused s m t k))

@@ -1,14 +1,13 @@
 -- The path report (docs/FORMAT.md, The path report).
-use Rattle.std.specs.Prelude.{ℕ, zero, suc, cond, List, [], ◌∷◌, ◌++◌, map, eqb, get_or}
+use Rattle.std.specs.Prelude.{ℕ, zero, suc, cond, List, [], ◌∷◌, ◌++◌, map, eqb, get_or, Result, Ok, Err}
 use Rattle.layout.specs.Layout.{Leaf, plain, string}
 use Rattle.layout.specs.Entities.{value_in}
 use Rattle.layout.specs.Reading.{Outcome, ok, refuse}
 use Rattle.runs.specs.Runs.{pairs}
-use Rattle.table.specs.Answers.{Total, counted, uncounted}
+use Rattle.table.specs.declared.Refusal.{Refusal}
+use Rattle.table.specs.Answers.{number_of, Total, counted, uncounted}
 use Rattle.section.specs.Derivation.{Placed}
 use Rattle.section.specs.Section.{read_section}
-use Rattle.paths.specs.declared.PathReport.{PathReport}
-use Rattle.paths.specs.declared.PathReport.TheVariants.{Counted, Refused}
 
 -- A kind, and which of its fields is full_path, from 1. A schema has none. Each field up to full_path is one leaf, a text or a number
 abbrev pub full_path_fields : List (ℕ × ℕ)
@@ -61,6 +60,6 @@ unfoldable pub report : List ℕ → Total
 report s = report_on (read_section s)
 
 -- The number, or number and place, of each case
-abbrev pub report_of : PathReport → Total
-report_of (Counted n) = counted n
-report_of (Refused refusal) = uncounted refusal.number refusal.place
+abbrev pub report_of : Result ℕ Refusal → Total
+report_of (Ok n) = counted n
+report_of (Err refusal) = uncounted (number_of refusal.kind) refusal.place

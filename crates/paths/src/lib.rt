@@ -9,39 +9,18 @@ ghost use Rattle.paths.specs.Repeats.{ExactReport};
 ghost use Rattle.paths.specs.Private.{T, N, after_fields, path_place, path_at, far, longest, PayloadIn, Counts, Equals, Gathered, NoneLeft, First};
 
 use runs::Mark;
-use table::{Answer, Refusal};
-
-// The number of pairs, or a section's refusal.
-#[derive(Clone, Copy)]
-pub enum PathReport {
-    Counted { pairs: u64 },
-    Refused(Refusal),
-}
+use table::{Refusal, RefusalKind};
 
 // The number of unordered pairs of entities that repeat a path, or the section's refusal of 1 to 12. Two entities repeat a path if
 // they are of one kind and their full_path bytes agree. The answer does not depend on `work`, and what `work` holds afterwards is
 // free. The section is read through a table without rows, so that 13 only says that it is derived and has leaves.
-pub fn path_repeats(section: &[u8], work: &mut [u32]) -> PathReport
+pub fn path_repeats(section: &[u8], work: &mut [u32]) -> Result<u64, Refusal>
     ensures result_value { report_of result ≡ report section.now }
     ensures exact_report { ExactReport section.now (report_of result) }
 {
-    let mut none: [u32; 0] = [];
-    let answer = section::decode_entities(section, &mut none);
-    match answer {
-        Answer::Accepted {
-            entities: _,
-            rows: _,
-        } => PathReport::Counted {
-            pairs: count_pairs(section, work),
-        },
-        Answer::Refused(refusal) => {
-            if refusal.number != 13 {
-                return PathReport::Refused(refusal);
-            }
-            PathReport::Counted {
-                pairs: count_pairs(section, work),
-            }
-        }
+    match section::decode_entities(section, &mut []) {
+        Err(refusal) if refusal.kind != RefusalKind::TableTooSmall => Err(refusal),
+        _ => Ok(count_pairs(section, work)),
     }
 }
 

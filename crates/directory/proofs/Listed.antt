@@ -17,7 +17,10 @@ use Rattle.layout.specs.Theorems.{Bytes}
 use Rattle.layout.proofs.Walk.{all_ok}
 use Rattle.layout.proofs.Alone.{never_accepts}
 use Rattle.table.specs.Answers.{answer_of, result_of}
-use Rattle.table.specs.declared.Answer.TheVariants.{Accepted, Refused}
+use Rattle.std.specs.Prelude as prelude
+use Rattle.std.specs.Prelude.{Ok, Err}
+use Rattle.table.specs.declared.Counts.{Counts}
+use Rattle.table.specs.declared.Refusal.{Refusal}
 use Rattle.section.specs.Derivation.{Placed, total_leaves, given_of}
 use Rattle.section.specs.Section.{read_section, reading}
 use Rattle.section.proofs.Section.{section_sound}
@@ -27,7 +30,6 @@ use Rattle.directory.specs.Private.{zeros, record_before, records_put, Ready, en
 use Rattle.directory.proofs.Records.{length_records}
 use Rattle.directory.proofs.Ready.{Stored, leads}
 use Rattle.layout.specs.Answers as answers
-use Rattle.table.specs.declared.Answer as declared
 
 before_is : (r : Record) (rs : List Record) (n : ℕ) → n < length rs → record_before r rs (suc n) ≡ get_or rs n zeros
 before_is r [] n h = absurd (omega arith)
@@ -92,38 +94,38 @@ not_both : {entities rows n p : ℕ} → accepted entities rows ≡ answers.refu
 not_both e = never_accepts e
 
 module _ (s : List ℕ) (u : Bytes s) (table : List ℕ) (room : ℕ) (t : List ℕ) where
-  pub ready : (r : declared.Answer) → result_of r t ≡ reading_for s table room → Ready s t (entity_count r) room
+  pub ready : (r : prelude.Result Counts Refusal) → result_of r t ≡ reading_for s table room → Ready s t (entity_count r) room
   ready r e = go r (reading_for s table room) (comes s table room) e
     where
-      go : (r : declared.Answer) (x : Result) → Comes s table room x → result_of r t ≡ x → Ready s t (entity_count r) room
-      go (Refused refusal) x c e = none_ready s u t room
-      go (Accepted entities rows) x (turned n p q) e = absurd (not_both (ap (λ (y : Result). y.answer) e ∙ q))
-      go (Accepted entities rows) x (given es end k h) e =
-          let n : entities ≡ length es = ap (λ (y : Result). y.answer.entities) e in
+      go : (r : prelude.Result Counts Refusal) (x : Result) → Comes s table room x → result_of r t ≡ x → Ready s t (entity_count r) room
+      go (Err refusal) x c e = none_ready s u t room
+      go (Ok counts) x (turned n p q) e = absurd (not_both (ap (λ (y : Result). y.answer) e ∙ q))
+      go (Ok counts) x (given es end k h) e =
+          let n : counts.entities ≡ length es = ap (λ (y : Result). y.answer.entities) e in
           rw n (all_ready s u t (length table - row_width * total_leaves es) room es end k h (ap (λ (y : Result). y.table) e))
 
 -- The list with the records is the directory's
-pub listed : (s table : List ℕ) (list : List Record) (t : List ℕ) (r : declared.Answer) → result_of r t ≡ reading_for s table (length list) → (l : List Record) → l ≡ records_put (directory_of s) (entity_count r) list → listed_of r t l ≡ directory s table list
+pub listed : (s table : List ℕ) (list : List Record) (t : List ℕ) (r : prelude.Result Counts Refusal) → result_of r t ≡ reading_for s table (length list) → (l : List Record) → l ≡ records_put (directory_of s) (entity_count r) list → listed_of r t l ≡ directory s table list
 unfolding directory directory_of
 listed s table list t r e l f =
     let q : l ≡ list_after (reading_for s table (length list)) (directory_of s) list = f ∙ go r (reading_for s table (length list)) (comes s table (length list)) e in
     λ i. record { result = e i; list = q i }
   where
-    go : (r : declared.Answer) (x : Result) → Comes s table (length list) x → result_of r t ≡ x → records_put (directory_of s) (entity_count r) list ≡ list_after x (directory_of s) list
-    go (Refused refusal) x (turned n p q) e = rw q
-    go (Refused refusal) x (given es end k h) e = absurd (not_both (sym (ap (λ (y : Result). y.answer) e)))
-    go (Accepted entities rows) x (turned n p q) e = absurd (not_both (ap (λ (y : Result). y.answer) e ∙ q))
-    go (Accepted entities rows) x (given es end k h) e =
+    go : (r : prelude.Result Counts Refusal) (x : Result) → Comes s table (length list) x → result_of r t ≡ x → records_put (directory_of s) (entity_count r) list ≡ list_after x (directory_of s) list
+    go (Err refusal) x (turned n p q) e = rw q
+    go (Err refusal) x (given es end k h) e = absurd (not_both (sym (ap (λ (y : Result). y.answer) e)))
+    go (Ok counts) x (turned n p q) e = absurd (not_both (ap (λ (y : Result). y.answer) e ∙ q))
+    go (Ok counts) x (given es end k h) e =
         let rs : List Record = records_from 0 es in
-        let n : entities ≡ length rs = ap (λ (y : Result). y.answer.entities) e ∙ sym (length_records 0 es) in
+        let n : counts.entities ≡ length rs = ap (λ (y : Result). y.answer.entities) e ∙ sym (length_records 0 es) in
         rw (k, n) (put_all rs list (omega (arith, h, length_records 0 es)))
 
-counted : (r : declared.Answer) → (answer_of r).entities ≡ entity_count r
-counted (Accepted entities rows) = refl
-counted (Refused refusal) = refl
+counted : (r : prelude.Result Counts Refusal) → (answer_of r).entities ≡ entity_count r
+counted (Ok counts) = refl
+counted (Err refusal) = refl
 
 -- From the answer r of the plain reading, with room for so many records
-module _ (s table after : List ℕ) (room : ℕ) (r : declared.Answer) (e : result_of r after ≡ reading s table) where
+module _ (s table after : List ℕ) (room : ℕ) (r : prelude.Result Counts Refusal) (e : result_of r after ≡ reading s table) where
   pub room_enough : entity_count r ≤ room → result_of r after ≡ reading_for s table room
   unfolding reading_for
   room_enough h = rw (← e, le-leb (answer_of r).entities room (omega (arith, h, counted r)))

@@ -19,24 +19,22 @@ use Rattle.layout.proofs.InBytes.{drop_take}
 use Rattle.layout.proofs.BadReads.{not_true}
 use Rattle.raw_bytes.specs.Bytes.{number_or0, same}
 use Rattle.raw_bytes.proofs.Compared.{same_sound}
+use Rattle.std.specs.Prelude.{Result, Ok, Err}
 use Rattle.table.specs.declared.Refusal.{Refusal}
+use Rattle.table.specs.Answers.{number_of}
 use Rattle.reading.specs.State.{ReadState, read_state, new_cursor, finished_at}
 use Rattle.reading.specs.Run.{run}
-use Rattle.leaf.specs.declared.Cursor.{Cursor}
 use Rattle.framing.specs.Entries.{sentinel_bytes}
 use Rattle.framing.specs.Framing.{framing_from}
 use Rattle.framing.specs.Answers.{framing_of, end_of}
 use Rattle.framing.specs.Places.{entry_end}
-use Rattle.framing.specs.declared.Framed.{Framed}
-use Rattle.framing.specs.declared.Framed.TheVariants.{Whole, Refused}
 use Rattle.framing.proofs.Entries.{entry_here, whole_here}
 use Rattle.section.specs.Derivation.{Item, sentinel, entity, payload, ProperItem, placed, Derivation}
 use Rattle.section.specs.Section.{read_section}
-use Rattle.section.specs.Entry.{Stage, stage, staged, seeks, past_entry, read_entry}
+use Rattle.section.specs.Entry.{Stage, stage, seeks, past_entry, read_entry}
 use Rattle.section.specs.Rest.{Rest}
 use Rattle.section.specs.Demand3.{Good}
-use Rattle.section.specs.Private.{Reads}
-use Rattle.section.specs.declared.Progress.{Progress}
+use Rattle.section.specs.Private.{Reads, Walks}
 use Rattle.section.proofs.Derivation.{kind_some, payload_some}
 use Rattle.section.proofs.Entries.{Come, come_start, Leads, leads, come_end, arrive_entities_refusal, reads_accepted, reads_refused}
 use Rattle.section.proofs.Decode.{refused_section}
@@ -46,9 +44,8 @@ use Rattle.section.proofs.Rest.{rest_whole, First, rest_first, rest_none}
 use Rattle.directory.specs.Directory.{records_from}
 use Rattle.directory.specs.Holder.{ByteHolder, unheld, unread, holder_from, entity_at}
 use Rattle.directory.specs.Exact.{ExactHolder}
-use Rattle.directory.specs.Private.{IsHolder, entry_read, seen_after, held_by, held_in, Looked}
+use Rattle.directory.specs.Private.{IsHolder, boundary, entry_read, seen_after, held_by, held_in, Looked}
 use Rattle.directory.specs.declared.Seen.{Seen}
-use Rattle.directory.specs.declared.Look.{Look}
 use Rattle.directory.proofs.Holding.{and_false, holder_exact}
 
 -- The entities up to an item, if there are so many before it
@@ -89,51 +86,50 @@ cond_entities true x y = refl
 cond_entities false x y = refl
 
 -- Two states of a reading, one entry apart if there is one, and what was seen before the first
-pub record Looks (s : List ℕ) (position : ℕ) (p q : Progress) (t : List ℕ) (seen : Seen) : Type 0 where
+pub record Looks (s : List ℕ) (position : ℕ) (p q : Stage) (seen : Seen) : Type 0 where
   pub table : List ℕ
-  pub before : List ℕ
-  pub come : Come s table p.cursor.at (staged p before)
-  pub next : staged q t ≡ read_entry s (staged p before)
-  pub ends : seen.end ≤ p.cursor.at
-  around : p.cursor.at ≤ position → (w : Rest s 0) → Around s position p.cursor.at p.entities w
-  passed : position < p.cursor.at → IsHolder s position (held_by seen position)
+  pub come : Come s table p.state.cursor.at p
+  pub next : q ≡ read_entry s p
+  pub ends : seen.end ≤ p.state.cursor.at
+  around : p.state.cursor.at ≤ position → (w : Rest s 0) → Around s position p.state.cursor.at p.entities w
+  passed : position < p.state.cursor.at → IsHolder s position (held_by seen position)
 
-module _ (s : List ℕ) (u : Bytes s) (small : length s ≤ limit) (position : ℕ) (p q : Progress) (t : List ℕ) (seen : Seen) (l : Looks s position p q t seen) where
+module _ (s : List ℕ) (u : Bytes s) (small : length s ≤ limit) (position : ℕ) (p q : Stage) (seen : Seen) (l : Looks s position p q seen) where
   abbrev table : List ℕ
   table = l.table
 
   abbrev at : ℕ
-  at = p.cursor.at
+  at = p.state.cursor.at
 
   abbrev g : Stage
-  g = staged p l.before
+  g = p
 
-  unrefused : p.cursor.refusal ≡ 0
+  unrefused : p.state.cursor.refusal ≡ 0
   unrefused = ap (λ (x : Stage). x.state.cursor.refusal) l.come.stands ∙ arrive_entities_refusal l.come.found (read_state new_cursor table)
 
   few : p.entities ≤ limit
   few = omega (arith, ap (λ (x : Stage). x.entities) l.come.stands, l.come.few, l.come.walked.inside, small)
 
   -- Without a whole entry nothing is read
-  same_stage : entry_end s at ≤ at → staged q t ≡ g
+  same_stage : entry_end s at ≤ at → q ≡ g
   same_stage h = l.next ∙ entry_none s g unrefused small few h
 
   -- With one, it is read
-  past : at < entry_end s at → staged q t ≡ past_entry s g
+  past : at < entry_end s at → q ≡ past_entry s g
   past h = l.next ∙ entry_some s g unrefused small few h
 
-  led : at < entry_end s at → Leads s table (entry_end s at) (staged q t)
-  led h = leads s table u small at g l.come (entry_end s at) refl h (staged q t) (past h)
+  led : at < entry_end s at → Leads s table (entry_end s at) q
+  led h = leads s table u small at g l.come (entry_end s at) refl h q (past h)
 
   -- Whether there is one
-  entry_if_moved : at < q.cursor.at → at < entry_end s at
+  entry_if_moved : at < q.state.cursor.at → at < entry_end s at
   entry_if_moved h = go (ltb at (entry_end s at)) refl
     where
       go : (b : Bool) → ltb at (entry_end s at) ≡ b → at < entry_end s at
       go true e = ltb-true _ _ e
       go false e = absurd (omega (arith, h, ap (λ (x : Stage). x.state.cursor.at) (same_stage (ltb-false _ _ e))))
 
-  entry_if_refused : (q.cursor.refusal ≡ 0 → ⊥) → at < entry_end s at
+  entry_if_refused : (q.state.cursor.refusal ≡ 0 → ⊥) → at < entry_end s at
   entry_if_refused n = go (ltb at (entry_end s at)) refl
     where
       go : (b : Bool) → ltb at (entry_end s at) ≡ b → at < entry_end s at
@@ -172,17 +168,17 @@ module _ (s : List ℕ) (u : Bytes s) (small : length s ≤ limit) (position : �
         ∙ is_sentinel first.item first.proper
 
   -- The entry was read
-  module _ (z : q.cursor.refusal ≡ 0) (moved : at < q.cursor.at) where
+  module _ (z : q.state.cursor.refusal ≡ 0) (moved : at < q.state.cursor.at) where
     abbrev h : at < entry_end s at
     h = entry_if_moved moved
 
-    come_next : Come s table (entry_end s at) (staged q t)
+    come_next : Come s table (entry_end s at) q
     come_next = (led h).goes z
 
-    at_next : q.cursor.at ≡ at + 4 + number_or0 s at
+    at_next : q.state.cursor.at ≡ at + 4 + number_or0 s at
     at_next = ap (λ (x : Stage). x.state.cursor.at) come_next.stands ∙ (whole_here s at h).0
 
-    pub nearer : length s - q.cursor.at < length s - at
+    pub nearer : length s - q.state.cursor.at < length s - at
     nearer = omega (arith, moved, at_next, (whole_here s at h).2)
 
     module _ (r : at ≤ position) (w : Rest s 0) where
@@ -195,7 +191,7 @@ module _ (s : List ℕ) (u : Bytes s) (small : length s ≤ limit) (position : �
       abbrev tells : (index row place : ℕ) → List Item → ByteHolder
       tells index row place is = holder_from index (records_from row (placed place is)) position
 
-      around_next : q.cursor.at ≤ position → Around s position (at + 4 + number_or0 s at) q.entities w
+      around_next : q.state.cursor.at ≤ position → Around s position (at + 4 + number_or0 s at) q.entities w
       around_next k =
           let (row, e) = past_item at p.entities a.row position f.others f.item (omega (arith, k, at_next, f.sized)) in
           record {
@@ -210,49 +206,47 @@ module _ (s : List ℕ) (u : Bytes s) (small : length s ≤ limit) (position : �
                 ∙ ap (tells q.entities row (at + 4 + number_or0 s at)) (sym f.left);
           }
 
-      held_here : position < q.cursor.at → held_by (record { index = p.entities; next = q.entities; end = q.cursor.at }) position ≡ holder_from 0 (records_from 0 (placed 0 w.derivation.items)) position
+      held_here : position < q.state.cursor.at → held_by (record { index = p.entities; next = q.entities; end = q.state.cursor.at }) position ≡ holder_from 0 (records_from 0 (placed 0 w.derivation.items)) position
       held_here k =
           let next = entities_are a.rest h in
-          let end : q.cursor.at ≡ at + 4 + length (payload f.item) = at_next ∙ ap (λ (m : ℕ). at + 4 + m) f.sized in
-          let here : ◌≡◌ {A = Seen} (record { index = p.entities; next = q.entities; end = q.cursor.at }) (record { index = p.entities; next = count_after f.item p.entities; end = at + 4 + length (payload f.item) }) = λ i. record { index = p.entities; next = next i; end = end i } in
+          let end : q.state.cursor.at ≡ at + 4 + length (payload f.item) = at_next ∙ ap (λ (m : ℕ). at + 4 + m) f.sized in
+          let here : ◌≡◌ {A = Seen} (record { index = p.entities; next = q.entities; end = q.state.cursor.at }) (record { index = p.entities; next = count_after f.item p.entities; end = at + 4 + length (payload f.item) }) = λ i. record { index = p.entities; next = next i; end = end i } in
           ap (λ (x : Seen). held_by x position) here
           ∙ in_item at p.entities a.row position f.others f.item r (omega (arith, k, end))
           ∙ sym (a.same_holder ∙ ap (tells p.entities a.row at) f.items)
 
-    again : (x : Progress) (t' : List ℕ) → staged x t' ≡ read_entry s (staged q t) → (b : Bool) → ltb position at ≡ b → (new : Seen) → new ≡ cond b seen (record { index = p.entities; next = q.entities; end = q.cursor.at }) → Looks s position q x t' new
-    again x t' e true k new j =
+    again : (x : Stage) → x ≡ read_entry s q → (b : Bool) → ltb position at ≡ b → (new : Seen) → new ≡ cond b seen (record { index = p.entities; next = q.entities; end = q.state.cursor.at }) → Looks s position q x new
+    again x e true k new j =
         let before : position < at = ltb-true position at k in
         rw j
         (record {
           table = table;
-          before = t;
-          come = subst (λ (m : ℕ). Come s table m (staged q t)) (sym (ap (λ (y : Stage). y.state.cursor.at) come_next.stands)) come_next;
+          come = subst (λ (m : ℕ). Come s table m q) (sym (ap (λ (y : Stage). y.state.cursor.at) come_next.stands)) come_next;
           next = e;
           ends = omega (arith, l.ends, moved);
           around = λ r w. absurd (omega (arith, r, before, moved));
           passed = λ r. l.passed before;
         })
-    again x t' e false k new j =
+    again x e false k new j =
         let reached : at ≤ position = ltb-false position at k in
         rw j
         (record {
           table = table;
-          before = t;
-          come = subst (λ (m : ℕ). Come s table m (staged q t)) (sym (ap (λ (y : Stage). y.state.cursor.at) come_next.stands)) come_next;
+          come = subst (λ (m : ℕ). Come s table m q) (sym (ap (λ (y : Stage). y.state.cursor.at) come_next.stands)) come_next;
           next = e;
           ends = omega arith;
           around = λ r w. subst (λ (m : ℕ). Around s position m q.entities w) (sym at_next) (around_next reached w r);
           passed = λ r w. held_here reached w r;
         })
 
-  pub both_of : entry_read p q ≡ true → (q.cursor.refusal ≡ 0) × (at < q.cursor.at)
+  pub both_of : entry_read (boundary p) q.state ≡ true → (q.state.cursor.refusal ≡ 0) × (at < q.state.cursor.at)
   both_of e = let (a, b) = (and-eq-true_iff _ _).0 e in (eqb-true _ _ a, ltb-true _ _ b)
 
-  pub looks_again : (e : entry_read p q ≡ true) (x : Progress) (t' : List ℕ) → staged x t' ≡ read_entry s (staged q t) → (new : Seen) → new ≡ seen_after seen p q position → Looks s position q x t' new
-  looks_again e x t' k new j = again (both_of e).0 (both_of e).1 x t' k (ltb position at) refl new j
+  pub looks_again : (e : entry_read (boundary p) q.state ≡ true) (x : Stage) → x ≡ read_entry s q → (new : Seen) → new ≡ seen_after seen (boundary p) (boundary q) position → Looks s position q x new
+  looks_again e x k new j = again (both_of e).0 (both_of e).1 x k (ltb position at) refl new j
 
   -- The end: a refusal, or no whole entry
-  ends_refused : (q.cursor.refusal ≡ 0 → ⊥) → Looked s position at (staged q t) seen
+  ends_refused : (q.state.cursor.refusal ≡ 0 → ⊥) → Looked s position at q seen
   ends_refused n =
       let k = (led (entry_if_refused n)).refuses n in
       record { table = table; walks = record { walked = l.come.walked; kept = k.kept; reads = k.reads }; held = λ z. absurd (n z) }
@@ -270,8 +264,8 @@ module _ (s : List ℕ) (u : Bytes s) (small : length s ≤ limit) (position : �
   cond_same true = refl
   cond_same false = refl
 
-  ends_whole : entry_end s at ≤ at → Looked s position at (staged q t) seen
-  ends_whole k = record { table = table; walks = rw (same_stage k) (come_end s table u small at g l.come (entry_end s at) refl k); held = λ z. go (ltb position at) refl }
+  ends_whole : entry_end s at ≤ at → Looked s position at q seen
+  ends_whole k = record { table = table; walks = subst (λ (x : Stage). Walks s table at x) (sym (same_stage k)) (come_end s table u small at g l.come (entry_end s at) refl k); held = λ z. go (ltb position at) refl }
     where
       go : (b : Bool) → ltb position at ≡ b → IsHolder s position (held_by seen position)
       go true e = l.passed (ltb-true position at e)
@@ -280,40 +274,33 @@ module _ (s : List ℕ) (u : Bytes s) (small : length s ≤ limit) (position : �
           let none : held_by seen position ≡ unheld = rw (le-leb seen.end position (omega (arith, l.ends, ltb-false position at e))) (cond_same (leb seen.next seen.index)) in
           none ∙ sym (a.same_holder ∙ ap (λ (is : List Item). holder_from p.entities (records_from a.row (placed at is)) position) (none_left a.rest k))
 
-  pub looks_end : entry_read p q ≡ false → Looked s position at (staged q t) seen
-  looks_end e = go (eqb q.cursor.refusal 0) refl
+  pub looks_end : entry_read (boundary p) q.state ≡ false → Looked s position at q seen
+  looks_end e = go (eqb q.state.cursor.refusal 0) refl
     where
-      stays : q.cursor.refusal ≡ 0 → (b : Bool) → ltb at (entry_end s at) ≡ b → Looked s position at (staged q t) seen
+      stays : q.state.cursor.refusal ≡ 0 → (b : Bool) → ltb at (entry_end s at) ≡ b → Looked s position at q seen
       stays z false k = ends_whole (ltb-false _ _ k)
       stays z true k =
           let h = ltb-true _ _ k in
-          let m : q.cursor.at ≡ entry_end s at = ap (λ (x : Stage). x.state.cursor.at) ((led h).goes z).stands in
-          let v : entry_read p q ≡ true = rw (eq-eqb _ _ z, lt-ltb at q.cursor.at (omega arith)) in
+          let m : q.state.cursor.at ≡ entry_end s at = ap (λ (x : Stage). x.state.cursor.at) ((led h).goes z).stands in
+          let v : entry_read (boundary p) q.state ≡ true = rw (eq-eqb _ _ z, lt-ltb at q.state.cursor.at (omega arith)) in
           let y : ◌≡◌ {A = ℕ} 0 1 = cc in
           absurd (omega arith)
 
-      go : (b : Bool) → eqb q.cursor.refusal 0 ≡ b → Looked s position at (staged q t) seen
+      go : (b : Bool) → eqb q.state.cursor.refusal 0 ≡ b → Looked s position at q seen
       go true k = stays (eqb-true _ _ k) (ltb at (entry_end s at)) refl
       go false k = ends_refused (eqb-false _ _ k)
 
 -- At the start
-pub looks_start : (s table : List ℕ) → length s ≤ limit → (position : ℕ) (c : Cursor) → c ≡ new_cursor → (q : Progress) (t : List ℕ) → staged q t ≡ read_entry s (stage (read_state c table) 0)
-    → Looks s position (record { cursor = c; entities = 0 }) q t (record { index = 0; next = 0; end = 0 })
-looks_start s table small position c e q t k = go c (sym e) k
-  where
-    start : staged q t ≡ read_entry s (stage (read_state new_cursor table) 0) → Looks s position (record { cursor = new_cursor; entities = 0 }) q t (record { index = 0; next = 0; end = 0 })
-    start k = record {
-      table = table;
-      before = table;
-      come = come_start s table small (stage (read_state new_cursor table) 0) refl;
-      next = k;
-      ends = omega arith;
-      around = λ r w. record { rest = w; row = 0; same_holder = refl };
-      passed = λ r. absurd (omega arith);
-    }
-
-    go : (c : Cursor) → new_cursor ≡ c → staged q t ≡ read_entry s (stage (read_state c table) 0) → Looks s position (record { cursor = c; entities = 0 }) q t (record { index = 0; next = 0; end = 0 })
-    go c e k = subst (λ (x : Cursor). staged q t ≡ read_entry s (stage (read_state x table) 0) → Looks s position (record { cursor = x; entities = 0 }) q t (record { index = 0; next = 0; end = 0 })) e start k
+pub looks_start : (s table : List ℕ) → length s ≤ limit → (position : ℕ) (q : Stage) → q ≡ read_entry s (stage (read_state new_cursor table) 0)
+    → Looks s position (stage (read_state new_cursor table) 0) q (record { index = 0; next = 0; end = 0 })
+looks_start s table small position q k = record {
+  table = table;
+  come = come_start s table small (stage (read_state new_cursor table) 0) refl;
+  next = k;
+  ends = omega arith;
+  around = λ r w. record { rest = w; row = 0; same_holder = refl };
+  passed = λ r. absurd (omega arith);
+}
 
 derived_at : (s : List ℕ) (d : Derivation) → Good s d → (position : ℕ) → entity_at s position ≡ holder_from 0 (records_from 0 (placed 0 d.items)) position
 unfolding entity_at
@@ -333,24 +320,24 @@ module _ (s : List ℕ) (u : Bytes s) (position : ℕ) where
   unfolding read_section
   looked_long h = both (unread 1 0) (refused_at 1 0 (rw (lt-leb (length s) limit h)))
 
-  module _ (small : length s ≤ limit) (at : ℕ) (look : Look) (t : List ℕ) (l : Looked s position at (staged look.progress t) look.seen) (f : Framed) (e : framing_of f ≡ end_of (framing_from s at)) where
+  module _ (small : length s ≤ limit) (at : ℕ) (g : Stage) (seen : Seen) (l : Looked s position at g seen) (f : Result ℕ Refusal) (e : framing_of f ≡ end_of (framing_from s at)) where
     -- 2 to 4
-    pub looked_unframed : (x : Refusal) → f ≡ Refused x → (unread x.number x.place ≡ entity_at s position) × ExactHolder s position (unread x.number x.place)
-    looked_unframed x k = both (unread x.number x.place) (refused_at x.number x.place (refused_section s small x.number x.place (l.walks.walked.rest ∙ sym e ∙ ap framing_of k)))
+    pub looked_unframed : (x : Refusal) → f ≡ Err x → (unread (number_of x.kind) x.place ≡ entity_at s position) × ExactHolder s position (unread (number_of x.kind) x.place)
+    looked_unframed x k = both (unread (number_of x.kind) x.place) (refused_at (number_of x.kind) x.place (refused_section s small (number_of x.kind) x.place (l.walks.walked.rest ∙ sym e ∙ ap framing_of k)))
 
     -- 5 to 12, or what was seen
-    pub looked_whole : (end : ℕ) → f ≡ Whole end → (h : ByteHolder) → h ≡ held_in look position → (h ≡ entity_at s position) × ExactHolder s position h
-    looked_whole end k h j = both h (j ∙ go (eqb look.progress.cursor.refusal 0) refl)
+    pub looked_whole : (end : ℕ) → f ≡ Ok end → (h : ByteHolder) → h ≡ held_in g.state seen position → (h ≡ entity_at s position) × ExactHolder s position h
+    looked_whole end k h j = both h (j ∙ go (eqb g.state.cursor.refusal 0) refl)
       where
-        read_so : Reads l.table end (staged look.progress t) (read_section s)
+        read_so : Reads l.table end g (read_section s)
         read_so = l.walks.reads end (l.walks.walked.rest ∙ sym e ∙ ap framing_of k)
 
-        accepted : (z : look.progress.cursor.refusal ≡ 0) → held_by look.seen position ≡ entity_at s position
+        accepted : (z : g.state.cursor.refusal ≡ 0) → held_by seen position ≡ entity_at s position
         accepted z =
             let (es, m, q) = reads_accepted (read_section s) read_so z in
             let (d, g, _) = all_ok (section_sound s u) q in
             l.held z (rest_whole s d g) ∙ sym (derived_at s d g position)
 
-        go : (b : Bool) → eqb look.progress.cursor.refusal 0 ≡ b → cond b (held_by look.seen position) (unread look.progress.cursor.refusal look.progress.cursor.at) ≡ entity_at s position
+        go : (b : Bool) → eqb g.state.cursor.refusal 0 ≡ b → cond b (held_by seen position) (unread g.state.cursor.refusal g.state.cursor.at) ≡ entity_at s position
         go true z = accepted (eqb-true _ _ z)
-        go false n = refused_at look.progress.cursor.refusal look.progress.cursor.at (reads_refused (read_section s) read_so (eqb-false _ _ n))
+        go false n = refused_at g.state.cursor.refusal g.state.cursor.at (reads_refused (read_section s) read_so (eqb-false _ _ n))

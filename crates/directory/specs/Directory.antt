@@ -8,7 +8,9 @@ use Rattle.table.specs.Answers.{result_of}
 use Rattle.section.specs.Derivation.{Placed}
 use Rattle.section.specs.Section.{read_section, reading}
 use Rattle.directory.specs.declared.Record.{Record}
-use Rattle.table.specs.declared.Answer as declared
+use Rattle.table.specs.declared.Counts.{Counts}
+use Rattle.table.specs.declared.Refusal.{Refusal}
+use Rattle.std.specs.Prelude as prelude
 
 -- The record of an entity whose first row has an index. Its entry starts 4 bytes before its payload, with the length, and these
 -- 4 bytes count
@@ -59,5 +61,5 @@ directory s table list =
     record { result = r; list = list_after r (directory_of s) list }
 
 -- The code's answer, with the table and the list after it
-abbrev pub listed_of : declared.Answer → (table : List ℕ) → (list : List Record) → Listed
+abbrev pub listed_of : prelude.Result Counts Refusal → (table : List ℕ) → (list : List Record) → Listed
 listed_of a table list = record { result = result_of a table; list = list }

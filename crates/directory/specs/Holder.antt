@@ -1,12 +1,12 @@
 -- What holds a byte of a section (docs/FORMAT.md, What holds a byte).
-use Rattle.std.specs.Prelude.{ℕ, ◌+◌, Bool, cond, ◌&&◌, List, [], ◌∷◌, leb, ltb}
+use Rattle.std.specs.Prelude.{ℕ, ◌+◌, Bool, cond, ◌&&◌, List, [], ◌∷◌, leb, ltb, Option, None, Some, Result, Ok, Err}
 use Rattle.layout.specs.Reading.{Outcome, ok, refuse}
 use Rattle.section.specs.Derivation.{Placed}
 use Rattle.section.specs.Section.{read_section}
 use Rattle.directory.specs.Directory.{records_from}
 use Rattle.directory.specs.declared.Record.{Record}
-use Rattle.directory.specs.declared.Holder.TheVariants.{Entity, Nothing, Refused}
-use Rattle.directory.specs.declared.Holder as declared
+use Rattle.table.specs.declared.Refusal.{Refusal}
+use Rattle.table.specs.Answers.{number_of}
 
 -- A position is in the entry of a record
 abbrev pub contains : Record → (position : ℕ) → Bool
@@ -33,7 +33,7 @@ unfoldable pub entity_at : List ℕ → (position : ℕ) → ByteHolder
 entity_at s position = holder_in (read_section s) position
 
 -- Each case of the code's answer
-abbrev pub holder_of : declared.Holder → ByteHolder
-holder_of (Entity index) = holder index
-holder_of Nothing = unheld
-holder_of (Refused refusal) = unread refusal.number refusal.place
+abbrev pub holder_of : Result (Option ℕ) Refusal → ByteHolder
+holder_of (Ok None) = unheld
+holder_of (Ok (Some index)) = holder index
+holder_of (Err refusal) = unread (number_of refusal.kind) refusal.place

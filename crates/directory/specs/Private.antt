@@ -1,5 +1,5 @@
 -- What only the private functions of the crate promise one another. No public contract cites anything here.
-use Rattle.std.specs.Prelude.{ℕ, zero, suc, ◌+◌, ◌-◌, ◌≤◌, ◌<◌, Bool, true, false, cond, ◌&&◌, List, [], ◌∷◌, ◌≡◌, eqb, leb, ltb, length, set}
+use Rattle.std.specs.Prelude.{ℕ, zero, suc, ◌+◌, ◌-◌, ◌≤◌, ◌<◌, Bool, true, false, cond, ◌&&◌, List, [], ◌∷◌, ◌≡◌, eqb, leb, ltb, length, set, Result, Ok, Err}
 use Rattle.layout.specs.Written.{bytes_of, sort_number}
 use Rattle.layout.specs.Layout.{Kind}
 use Rattle.layout.specs.Entities.{value_in}
@@ -7,41 +7,44 @@ use Rattle.layout.specs.Answers.{limit}
 use Rattle.layout.specs.Theorems.{Bytes}
 use Rattle.raw_bytes.specs.Bytes.{number_or0}
 use Rattle.table.specs.Table.{row_of}
-use Rattle.table.specs.declared.Answer.TheVariants.{Accepted, Refused}
+use Rattle.table.specs.declared.Counts.{Counts}
+use Rattle.table.specs.declared.Refusal.{Refusal}
+use Rattle.reading.specs.State.{ReadState}
 use Rattle.section.specs.Derivation.{Placed, placed}
 use Rattle.section.specs.Rest.{Rest}
 use Rattle.section.specs.Entry.{Stage}
 use Rattle.section.specs.Private.{Walks}
-use Rattle.section.specs.declared.Progress.{Progress}
 use Rattle.directory.specs.declared.Seen.{Seen}
-use Rattle.directory.specs.declared.Look.{Look}
+use Rattle.directory.specs.declared.Boundary.{Boundary}
 use Rattle.directory.specs.declared.Record.{Record}
 use Rattle.directory.specs.Directory.{record_of, records_from, directory_of}
 use Rattle.directory.specs.Holder.{ByteHolder, holder, unheld, unread, holder_from}
-use Rattle.table.specs.declared.Answer as declared
 
 -- h is what holds a position of a derived section
 abbrev pub IsHolder : List ℕ → (position : ℕ) → ByteHolder → Type 0
 IsHolder s position h = (w : Rest s 0) → h ≡ holder_from 0 (records_from 0 (placed 0 w.derivation.items)) position
 
--- Whether an entry was read between two states of a reading
-abbrev pub entry_read : (p q : Progress) → Bool
-entry_read p q = eqb q.cursor.refusal 0 && ltb p.cursor.at q.cursor.at
+-- The boundary at which a reading stands
+abbrev pub boundary : Stage → Boundary
+boundary g = record { at = g.state.cursor.at; entities = g.entities }
 
--- What is seen after that entry, which counts if it starts at or before the position
-abbrev pub seen_after : Seen → (p q : Progress) → (position : ℕ) → Seen
-seen_after seen p q position =
-    cond (ltb position p.cursor.at) seen (record { index = p.entities; next = q.entities; end = q.cursor.at })
+-- Whether an entry was read from a boundary on
+abbrev pub entry_read : Boundary → ReadState → Bool
+entry_read b st = eqb st.cursor.refusal 0 && ltb b.at st.cursor.at
+
+-- What is seen after the entry between two boundaries, which counts if it starts at or before the position
+abbrev pub seen_after : Seen → (b c : Boundary) → (position : ℕ) → Seen
+seen_after seen b c position = cond (ltb position b.at) seen (record { index = b.entities; next = c.entities; end = c.at })
 
 -- The entity of what was seen, if there is one and its entry contains the position
 abbrev pub held_by : Seen → (position : ℕ) → ByteHolder
 held_by seen position = cond (leb seen.next seen.index) unheld (cond (leb seen.end position) unheld (holder seen.index))
 
 -- The answer at the end
-abbrev pub held_in : Look → (position : ℕ) → ByteHolder
-held_in look position =
-    let c = look.progress.cursor in
-    cond (eqb c.refusal 0) (held_by look.seen position) (unread c.refusal c.at)
+abbrev pub held_in : ReadState → Seen → (position : ℕ) → ByteHolder
+held_in st seen position =
+    let c = st.cursor in
+    cond (eqb c.refusal 0) (held_by seen position) (unread c.refusal c.at)
 
 -- Entries are read up to a boundary, through some table, and nothing is read there, or a refusal. Without a refusal, what was seen
 -- tells what holds the position
@@ -116,6 +119,6 @@ pub record Ready (s t : List ℕ) (n room : ℕ) : Type 0 where
   pub next : (i : ℕ) → i < n → (x : Record) → After s t (record_before zeros (directory_of s) i) x → x ≡ record_before zeros (directory_of s) (i + 1)
 
 -- The number of entities of the code's answer, 0 after a refusal
-abbrev pub entity_count : declared.Answer → ℕ
-entity_count (Accepted entities rows) = entities
-entity_count (Refused refusal) = 0
+abbrev pub entity_count : Result Counts Refusal → ℕ
+entity_count (Ok counts) = counts.entities
+entity_count (Err refusal) = 0

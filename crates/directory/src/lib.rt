@@ -6,20 +6,22 @@ ghost use Rattle.layout.specs.Answers.{limit};
 ghost use Rattle.layout.specs.Theorems.{Bytes};
 ghost use Rattle.table.specs.Answers.{result_of};
 ghost use Rattle.section.specs.Entry.{staged};
+ghost use Rattle.reading.specs.State.{read_state, new_cursor};
 ghost use Rattle.directory.specs.Directory.{directory_of, reading_for, directory, listed_of};
 ghost use Rattle.directory.specs.Holder.{entity_at, holder_of};
 ghost use Rattle.directory.specs.Exact.{ExactDirectory, ExactHolder};
+ghost use Rattle.leaf.specs.Reader.{state_of};
 ghost use Rattle.directory.specs.Private.{row_within, Guessed, RowsEnd, Between, After, Ready, records_put, entity_count, Looked, entry_read, seen_after, held_in};
 
-use framing::Framed;
-use leaf::Cursor;
-use section::Progress;
-use table::{Answer, Refusal};
+use layout::LIMIT;
+use leaf::Reader;
+use pass::Pass;
+use table::{Counts, Refusal, RefusalKind};
 
 // The record of an entity: its kind; where its entry starts, which is where its length is, and how long the entry is, with
 // the 4 bytes of that length; its first row, and how many rows it has. Rows are numbered from 0.
 #[repr(C)]
-#[derive(Clone, Copy)]
+#[derive(Clone, Copy, Default)]
 pub struct Record {
     pub kind: u32,
     pub start: u32,
@@ -28,49 +30,30 @@ pub struct Record {
     pub row_count: u32,
 }
 
-// What holds a byte: an entity, by its index; nothing; or a section's refusal.
-#[derive(Drop)]
-pub enum Holder {
-    Entity { index: usize },
-    Nothing,
-    Refused(Refusal),
-}
-
 // The reading with a directory: the plain reading, and a record for each entity at the start of the lent list. 21 comes after 13.
 // After a refusal the list is unchanged.
-pub fn decode_directory(section: &[u8], table: &mut [u32], records: &mut [Record]) -> Answer
+pub fn decode_directory(
+    section: &[u8],
+    table: &mut [u32],
+    records: &mut [Record],
+) -> Result<Counts, Refusal>
     ensures records_after { listed_of result table.new records.new ≡ directory section.now table.old records.old }
     ensures exact_directory { ExactDirectory section.now table.old records.old (listed_of result table.new records.new) }
 {
-    let answer = read_for(section, table, records.len());
-    fill(section, table, records, entity_count(answer));
-    answer
+    let counts = read_for(section, table, records.len())?;
+    fill(section, table, records, counts.entities);
+    Ok(counts)
 }
 
 // The plain reading, but 21 if there is room for fewer records than entities. What it accepts can be filled in.
-fn read_for(section: &[u8], table: &mut [u32], room: usize) -> Answer
+fn read_for(section: &[u8], table: &mut [u32], room: usize) -> Result<Counts, Refusal>
     ensures { (result_of result table.new ≡ reading_for section.now table.old room) × Ready section.now table.new (entity_count result) room }
 {
-    let answer = section::decode_entities(section, table);
-    match answer {
-        Answer::Accepted { entities, rows: _ } => {
-            if room < entities {
-                return table::refuse(table, 21, 0);
-            }
-            answer
-        }
-        Answer::Refused(_) => answer,
+    let counts = section::decode_entities(section, table)?;
+    if room < counts.entities {
+        return table::refuse(table, RefusalKind::ListTooSmall, 0);
     }
-}
-
-// The number of entities of an answer, 0 after a refusal.
-fn entity_count(answer: Answer) -> usize
-    ensures { result ≡ entity_count answer }
-{
-    match answer {
-        Answer::Accepted { entities, rows: _ } => entities,
-        Answer::Refused(_) => 0,
-    }
+    Ok(counts)
 }
 
 // Stores the first n records, one after the other.
@@ -78,18 +61,10 @@ fn fill(section: &[u8], table: &[u32], records: &mut [Record], n: usize)
     requires { Ready section.now table.now n (length records.old) }
     ensures { records.new ≡ records_put (directory_of section.now) n records.old }
 {
-    let mut r = Record {
-        kind: 0,
-        start: 0,
-        length: 0,
-        first_row: 0,
-        row_count: 0,
-    };
-    let mut i = 0;
-    while i < n {
+    let mut r = Record::default();
+    for i in 0..n {
         r = record_after(section, table, r);
         records[i] = r;
-        i += 1;
     }
 }
 
@@ -138,118 +113,108 @@ fn is_within(t: &[u32], row: usize, start: u32, end: u32) -> bool
     start < offset && offset <= end
 }
 
-// The entity whose entry contains the byte at a position, by its index; or the section's refusal of 1 to 12. As in
+// The entity whose entry contains the byte at a position, by its index, if there is one; or the section's refusal of 1 to 12. As in
 // `decode_entities`, the entries are read as they are found, here through a table without rows, and the framing after them is
 // checked afterwards.
-pub fn entity_at(section: &[u8], position: u64) -> Holder
+pub fn entity_at(section: &[u8], position: u64) -> Result<Option<usize>, Refusal>
     ensures result_value { holder_of result ≡ entity_at section.now position }
     ensures exact_holder { ExactHolder section.now position (holder_of result) }
 {
-    if layout::LIMIT < section.len() {
-        return Holder::Refused(Refusal {
-            number: 1,
-            place: 0,
-        });
+    if LIMIT < section.len() {
+        return Err(Refusal::at(RefusalKind::InputTooLong, 0));
     }
-    let mut none: [u32; 0] = [];
-    let look = look_at(section, position, &mut none);
-    match framing::framing_from(section, look.at) {
-        Framed::Refused(refusal) => Holder::Refused(refusal),
-        Framed::Whole { end: _ } => holder_in(look, position),
-    }
+    let mut reader = Reader::new(section, &mut []);
+    let look = look_at(&mut reader, position);
+    framing::framing_from(section, look.at)?;
+    holder_in(&reader, look.seen, position)
+}
+
+// A boundary between two entries, and how many entities are before it.
+#[derive(Clone, Copy)]
+struct Boundary {
+    at: usize,
+    entities: usize,
 }
 
 // Of the last entry that starts at or before a position: how many entities are before it, how many with it, and where it ends.
-#[derive(Drop)]
+#[derive(Clone, Copy)]
 struct Seen {
     index: usize,
     next: usize,
     end: usize,
 }
 
-// The reading up to the last entry, or up to the first refusal; the boundary before that; and what was seen of the position.
+// The boundary up to which entries were read, the number of entities with what was read there, and what was seen of the position.
 #[derive(Drop)]
 struct Look {
-    progress: Progress,
     at: usize,
+    entities: usize,
     seen: Seen,
 }
 
 // Entry after entry, as long as there are whole ones, or up to the first refusal.
-fn look_at(s: &[u8], position: u64, t: &mut [u32]) -> Look
-    requires fact_1 { length s.now ≤ limit }
-    requires fact_2 { Bytes s.now }
-    ensures { Looked s.now position result.at (staged result.progress t.new) result.seen }
+fn look_at(reader: &mut Reader, position: u64) -> Look
+    requires start { state_of reader.old ≡ read_state new_cursor reader.old.t.now }
+    requires small { length reader.old.s.now ≤ limit }
+    requires bytes { Bytes reader.old.s.now }
+    ensures { Looked reader.old.s.now position result.at (staged reader.new result.entities) result.seen }
 {
     let mut seen = Seen {
         index: 0,
         next: 0,
         end: 0,
     };
-    let mut p = Progress {
-        cursor: Cursor::new(),
-        entities: 0,
-    };
-    let mut q = section::read_entry(p, s, t);
-    while is_further(p, q) {
-        seen = seen_after(seen, p, q, position);
-        p = q;
-        q = section::read_entry(p, s, t);
+    let mut before = Boundary { at: 0, entities: 0 };
+    let mut entities = section::read_entry(reader, 0);
+    while is_further(before, reader) {
+        let after = Boundary {
+            at: reader.at,
+            entities,
+        };
+        seen = seen_after(seen, before, after, position);
+        before = after;
+        entities = section::read_entry(reader, entities);
     }
-    let c = p.cursor;
     Look {
-        progress: q,
-        at: c.at,
+        at: before.at,
+        entities,
         seen,
     }
 }
 
-// Whether an entry was read between two states of a reading.
-fn is_further(p: Progress, q: Progress) -> bool
-    ensures { result ≡ entry_read p q }
+// Whether an entry was read from a boundary on.
+fn is_further(before: Boundary, reader: &Reader) -> bool
+    ensures { result ≡ entry_read before (state_of reader.now) }
 {
-    let c = p.cursor;
-    let d = q.cursor;
-    if d.refusal != 0 {
-        return false;
-    }
-    c.at < d.at
+    !reader.is_refused() && before.at < reader.at
 }
 
-// What is seen after the entry between two states of a reading.
-fn seen_after(seen: Seen, p: Progress, q: Progress, position: u64) -> Seen
-    ensures { result ≡ seen_after seen p q position }
+// What is seen after the entry between two boundaries.
+fn seen_after(seen: Seen, before: Boundary, after: Boundary, position: u64) -> Seen
+    ensures { result ≡ seen_after seen before after position }
 {
-    let c = p.cursor;
-    let d = q.cursor;
-    if position < c.at as u64 {
+    if position < before.at as u64 {
         return seen;
     }
     Seen {
-        index: p.entities,
-        next: q.entities,
-        end: d.at,
+        index: before.entities,
+        next: after.entities,
+        end: after.at,
     }
 }
 
 // The answer at the end: the refusal; or the entity of the last entry that was seen, if it has one and contains the position.
-fn holder_in(look: Look, position: u64) -> Holder
-    ensures { holder_of result ≡ held_in look position }
+fn holder_in(reader: &Reader, seen: Seen, position: u64) -> Result<Option<usize>, Refusal>
+    ensures { holder_of result ≡ held_in (state_of reader.now) seen position }
 {
-    let p = look.progress;
-    let c = p.cursor;
-    let seen = look.seen;
-    if c.refusal != 0 {
-        return Holder::Refused(Refusal {
-            number: c.refusal,
-            place: c.at,
-        });
+    if let Some(kind) = reader.refusal {
+        return Err(Refusal::at(kind, reader.at));
     }
     if seen.next <= seen.index {
-        return Holder::Nothing;
+        return Ok(None);
     }
     if seen.end as u64 <= position {
-        return Holder::Nothing;
+        return Ok(None);
     }
-    Holder::Entity { index: seen.index }
+    Ok(Some(seen.index))
 }

@@ -1,5 +1,5 @@
 -- The first i records are stored, and r is the last of them.
-use Rattle.std.proofs.Common.{◌-◌, ◌≡◌, ◌≤◌}
+use Rattle.std.proofs.Common.{◌≡◌, ◌≤◌}
 use Rattle.directory.specs.Directory.{directory_of}
 use Rattle.directory.specs.Private.{zeros, record_before, records_put}
 use Rattle.directory.proofs.fill.Given as goal
@@ -10,6 +10,3 @@ invariant-loop-i l = record {
   stored : l.records ≡ records_put (directory_of l.section) l.i l.fn.records;
   last : l.r ≡ record_before zeros (directory_of l.section) l.i;
 }
-
-abbrev pub decreases-loop-i : goal.decreases-loop-i
-decreases-loop-i l = l.n - l.i

@@ -3,13 +3,12 @@ use Prim.Native.Nat.{ℕ, zero, suc, ◌+◌, ◌≤◌, ◌<◌}
 use native.Mathlib.Omega.{arith}
 use mathlib.Core.Bool.{Bool, true, false, cond}
 use mathlib.Core.List.{[], ◌∷◌, ◌++◌}
-use mathlib.Core.Logic.{◌≢◌, ◌⊎◌, ⊎_elim}
+use mathlib.Core.Logic.{◌≢◌}
 use mathlib.Core.Path.{◌≡◌, refl}
 use lib.Dec.{eqb}
 use borrow.Author.Tests.{ne_eqb, eqb-true, eqb-false}
 use Rattle.layout.specs.Layout.{Fault, fine, wrong, nothing}
 use Rattle.layout.specs.Forms.{Tags, ◌⇒◌, known, follows}
-use Rattle.layout.specs.Entities.{entity_kinds}
 
 -- n is not in the table
 abbrev pub Outside : Tags → ℕ → Type 0
@@ -46,23 +45,3 @@ of_two {G = G} a n h l f g = go (eqb n a) refl
     go : (x : Bool) → eqb n a ≡ x → G
     go true e = f (eqb-true n a e)
     go false e = g (omega (arith, eqb-false n a e))
-
--- The kind of an entity in a match in which ord and hash share an arm and each other kind has its own: none of the first five
-abbrev pub NoneOfFive : ℕ → Type 0
-NoneOfFive n = ((((Unit {0} × (n ≢ 1)) × (n ≢ 2)) × (n ≢ 3)) × (n ≢ 4)) × (n ≢ 5)
-
--- What reaches the shared arm
-pub ord_low : (n : ℕ) → NoneOfFive n → 1 ≤ n → 6 ≤ n
-ord_low n h k = omega arith
-
--- What no arm takes
-pub no_kind : (n : ℕ) → (NoneOfFive n × (n ≢ 8)) × (n ≢ 9) → (n < 1) ⊎ (8 ≤ n) → Outside entity_kinds n
-no_kind n r h =
-    let (((((((u, a), b), c), d), e), x), y) = r in
-    (a, (b, (c, (d, (e, (six, (seven, (x, (y, tt)))))))))
-  where
-    six : n ≢ 6
-    six = λ e. ⊎_elim (λ k. omega arith) (λ k. omega arith) h
-
-    seven : n ≢ 7
-    seven = λ e. ⊎_elim (λ k. omega arith) (λ k. omega arith) h

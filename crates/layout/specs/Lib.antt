@@ -9,4 +9,3 @@ pub mod Answers
 pub mod Alone
 pub mod ReadAlone
 pub mod Theorems
-pub mod Private

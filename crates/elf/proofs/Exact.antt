@@ -173,9 +173,9 @@ module _ (file name : List ℕ) where
 pub finding_exact : FindingExact
 finding_exact file name a = (λ e. rw e at (find_sound file name), find_complete file name a)
 
--- Both clauses, from the first
-pub promised : (file name : List ℕ) (a : Outcome ℕ ℕ) → a ≡ find_section file name → (a ≡ find_section file name) × ExactFinding file name a
-promised file name a e = (e, rw (← e) at (find_sound file name))
+-- The second clause, from the first
+pub exact_told : (file name : List ℕ) (a : Outcome ℕ ℕ) → a ≡ find_section file name → ExactFinding file name a
+exact_told file name a e = rw (← e) at (find_sound file name)
 
 -- A section that is found lies in the file
 abbrev Lies : List ℕ → Outcome ℕ ℕ → Type 0

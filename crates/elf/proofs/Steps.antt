@@ -4,40 +4,20 @@ use native.Mathlib.Nat.{add-zero}
 use native.Mathlib.Omega.{arith}
 use mathlib.Core.Bool.{Bool, true, false, and-eq-true_iff}
 use mathlib.Core.List.{List}
-use mathlib.Core.Path.{◌≡◌, refl, sym, ◌∙◌}
-use lib.Dec.{eqb, leb}
+use mathlib.Core.Path.{◌≡◌, ◌∙◌}
+use lib.Dec.{eqb}
 use lib.ListN.{length, get_or, take}
-use borrow.Author.Tests.{leb-true, leb-false, ltb-true, eq-eqb, ne_eqb, le-leb, lt-leb, lt-ltb, le-ltb}
+use borrow.Author.Tests.{leb-true, ltb-true, eq-eqb, ne_eqb, le-leb, lt-ltb}
 use Rattle.layout.specs.Reading.{ok, refuse}
 use Rattle.raw_bytes.specs.Bytes.{same}
-use Rattle.place.specs.Place.{between}
-use Rattle.elf.specs.Elf.{little, e_shoff, e_shentsize, e_shnum, sh_name, sh_type, sh_offset, sh_size, elfmag, field_in, of_file, header_at, headers_end, of_header, section_in, name_table, SectionTables}
+use Rattle.elf.specs.Elf.{little, e_shoff, e_shentsize, e_shnum, sh_name, sh_type, sh_offset, elfmag, field_in, of_file, header_at, headers_end, of_header, section_in, name_table, SectionTables}
 use Rattle.elf.specs.Find.{is_elf64, end_by, ends_in_file, has_tables, is_name, is_named_at, header_section, first_named, find_section}
 
 -- The kind of a file
 module _ (file : List ℕ) where
-  pub elf_short : length file < 64 → is_elf64 file ≡ false
+  pub elf_size : 64 ≤ length file → same (take 4 file) elfmag ≡ true → get_or file 4 0 ≡ 2 → get_or file 5 0 ≡ 1 → is_elf64 file ≡ eqb (of_file file e_shentsize) 64
   unfolding is_elf64
-  elf_short h = rw (lt-leb 64 (length file) h)
-
-  module _ (h : 64 ≤ length file) where
-    pub elf_magic : same (take 4 file) elfmag ≡ false → is_elf64 file ≡ false
-    unfolding is_elf64
-    elf_magic e = rw (le-leb 64 (length file) h, e)
-
-    module _ (m : same (take 4 file) elfmag ≡ true) where
-      pub elf_class : (get_or file 4 0 ≡ 2 → ⊥) → is_elf64 file ≡ false
-      unfolding is_elf64
-      elf_class e = rw (le-leb 64 (length file) h, m, ne_eqb (get_or file 4 0) 2 e)
-
-      module _ (c : get_or file 4 0 ≡ 2) where
-        pub elf_order : (get_or file 5 0 ≡ 1 → ⊥) → is_elf64 file ≡ false
-        unfolding is_elf64
-        elf_order e = rw (le-leb 64 (length file) h, m, eq-eqb (get_or file 4 0) 2 c, ne_eqb (get_or file 5 0) 1 e)
-
-        pub elf_size : get_or file 5 0 ≡ 1 → is_elf64 file ≡ eqb (of_file file e_shentsize) 64
-        unfolding is_elf64
-        elf_size e = rw (le-leb 64 (length file) h, m, eq-eqb (get_or file 4 0) 2 c, eq-eqb (get_or file 5 0) 1 e)
+  elf_size h m c e = rw (le-leb 64 (length file) h, m, eq-eqb (get_or file 4 0) 2 c, eq-eqb (get_or file 5 0) 1 e)
 
   pub elf_long : is_elf64 file ≡ true → 64 ≤ length file
   unfolding is_elf64
@@ -49,44 +29,12 @@ module _ (file : List ℕ) (header : ℕ) where
   unfolding ends_in_file
   ends_in h = le-leb _ _ h
 
-  pub ends_past : length file < end_by file header → ends_in_file file header ≡ false
-  unfolding ends_in_file
-  ends_past h = lt-leb _ _ h
-
   pub ends_so : ends_in_file file header ≡ true → end_by file header ≤ length file
   unfolding ends_in_file
   ends_so e = leb-true _ _ e
 
-  -- A test of what is left is one of the end
-  pub ends_left : (start size : ℕ) → start ≡ field_in file header sh_offset → size ≡ field_in file header sh_size → start ≤ length file
-      → leb size (length file - start) ≡ ends_in_file file header
-  unfolding ends_in_file
-  ends_left start size e f h = go (leb size (length file - start)) refl ∙ rw (e, f)
-    where
-      go : (b : Bool) → leb size (length file - start) ≡ b → leb size (length file - start) ≡ leb (start + size) (length file)
-      go true k = k ∙ sym (le-leb (start + size) (length file) (omega (arith, leb-true size (length file - start) k)))
-      go false k = k ∙ sym (lt-leb (start + size) (length file) (omega (arith, leb-false size (length file - start) k)))
-
 -- The tables
 module _ (file : List ℕ) where
-  pub tables_none : of_file file e_shnum < 1 → has_tables file ≡ false
-  unfolding has_tables
-  tables_none h = rw (lt-leb 1 (of_file file e_shnum) h)
-
-  module _ (h : 1 ≤ of_file file e_shnum) where
-    pub tables_index : of_file file e_shnum ≤ name_table file → has_tables file ≡ false
-    unfolding has_tables
-    tables_index k = rw (le-leb 1 (of_file file e_shnum) h, le-ltb (name_table file) (of_file file e_shnum) k)
-
-    module _ (k : name_table file < of_file file e_shnum) where
-      pub tables_past : length file < headers_end file → has_tables file ≡ false
-      unfolding has_tables
-      tables_past l = rw (le-leb 1 (of_file file e_shnum) h, lt-ltb (name_table file) (of_file file e_shnum) k, lt-leb (headers_end file) (length file) l)
-
-      pub tables_names : headers_end file ≤ length file → has_tables file ≡ ends_in_file file (header_at file (name_table file))
-      unfolding has_tables
-      tables_names l = rw (le-leb 1 (of_file file e_shnum) h, lt-ltb (name_table file) (of_file file e_shnum) k, le-leb (headers_end file) (length file) l)
-
   pub tables_sound : has_tables file ≡ true → SectionTables file
   unfolding has_tables
   tables_sound e =
@@ -96,13 +44,10 @@ module _ (file : List ℕ) where
       record { some = leb-true _ _ a; index = ltb-true _ _ b; headers = leb-true _ _ c; names = ends_so file (header_at file (name_table file)) d }
 
   pub tables_complete : SectionTables file → has_tables file ≡ true
-  tables_complete h = tables_names h.some h.index h.headers ∙ ends_in file (header_at file (name_table file)) h.names
-
--- The section name table, from what its header holds
-pub names_part : (file : List ℕ) (headers index start size : ℕ) → headers ≡ of_file file e_shoff → index ≡ name_table file
-    → start ≡ field_in file (headers + 64 * index) sh_offset → size ≡ field_in file (headers + 64 * index) sh_size
-    → between file start (start + size) ≡ section_in file (name_table file)
-names_part file headers index start size h i s n = rw (s, n, h, i)
+  unfolding has_tables
+  tables_complete h =
+      let n = ends_in file (header_at file (name_table file)) h.names in
+      rw (le-leb 1 (of_file file e_shnum) h.some, lt-ltb (name_table file) (of_file file e_shnum) h.index, le-leb (headers_end file) (length file) h.headers, n)
 
 -- A section
 module _ (file : List ℕ) (header : ℕ) where

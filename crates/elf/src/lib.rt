@@ -2,12 +2,16 @@
 #![tactic(auto)]
 
 ghost use Rattle.std.specs.Prelude.{◌+◌, ◌-◌, ◌<◌, ◌≤◌, ◌≡◌, length};
-ghost use Rattle.place.specs.Place.{found_part, part_of, number_in, place_in};
-ghost use Rattle.elf.specs.Elf.{little, e_shnum, of_file, section_in, name_table, SectionTables};
+ghost use Rattle.place.specs.Place.{found_part, part_of, number_in, place_in, bytes_told, number_told, place_told};
+ghost use Rattle.elf.specs.Elf.{little, e_shnum, of_file, section_in, name_table, field_in, sh_offset, sh_size, SectionTables};
 ghost use Rattle.elf.specs.Finding.{ExactFinding};
 ghost use Rattle.elf.specs.Find.{is_elf64, ends_in_file, has_tables, is_name, is_named_at, header_section, first_named, find_section};
 
-use place::PartPlace;
+use place::Part;
+use table::{Refusal, RefusalKind};
+
+// The first four bytes.
+const ELFMAG: &[u8] = b"\x7fELF";
 
 // The size of the file header, and of a section header.
 const EHSIZE: usize = 64;
@@ -42,198 +46,181 @@ const SH_SIZE: usize = 32;
 // The type of a section that has no bytes in the file.
 const SHT_NOBITS: usize = 8;
 
-// The section of a file with a name: a part of the file; or an empty part, with the refusal's number and place.
-pub fn find_section<'a>(
-    file: &'a [u8],
-    name: &[u8],
-    number: &mut u32,
-    place: &mut usize,
-) -> &'a [u8]
-    ensures result_value { result.now ≡ part_of file.now (find_section file.now name.now) }
-    ensures number_after { number.new ≡ number_in (find_section file.now name.now) }
-    ensures place_after { place.new ≡ place_in (find_section file.now name.now) }
+// The section of a file with a name, a part of the file.
+pub fn find_section<'a>(file: &'a [u8], name: &[u8]) -> Result<&'a [u8], Refusal>
+    ensures result_value { bytes_told result ≡ part_of file.now (find_section file.now name.now) }
+    ensures number_after { number_told result ≡ number_in (find_section file.now name.now) }
+    ensures place_after { place_told result ≡ place_in (find_section file.now name.now) }
 {
-    let found = place_section(file, name);
-    place::part_at(file, found, number, place)
+    place::part_at(file, place_section(file, name))
 }
 
 // Where it is.
-pub fn place_section(file: &[u8], name: &[u8]) -> PartPlace
+#[tactic(auto, using(crate::proofs::Steps::elf_long), unfolding(crate::specs::Find::find_section))]
+pub fn place_section(file: &[u8], name: &[u8]) -> Result<Part, Refusal>
     ensures result_value { found_part result ≡ find_section file.now name.now }
     ensures exact_finding { ExactFinding file.now name.now (found_part result) }
 {
     if !is_elf64(file) {
-        return place::no_part(18);
+        return place::no_part(RefusalKind::NotElf64);
     }
     if !has_tables(file) {
-        return place::no_part(19);
+        return place::no_part(RefusalKind::BadSectionHeaders);
     }
     if !is_name(name) {
-        return place::no_part(20);
+        return place::no_part(RefusalKind::NoSuchSection);
     }
     first_named(file, name_table(file), name)
 }
 
 // Whether the file is one of the kind that is searched.
+#[tactic(auto, unfolding(crate::specs::Find::is_elf64))]
 fn is_elf64(file: &[u8]) -> bool
     ensures { result ≡ is_elf64 file.now }
 {
-    if file.len() < EHSIZE {
-        return false;
-    }
-    if !raw_bytes::same(&file[..4], b"\x7fELF") {
-        return false;
-    }
-    if file[EI_CLASS] != ELFCLASS64 {
-        return false;
-    }
-    if file[EI_DATA] != ELFDATA2LSB {
-        return false;
-    }
-    half(file, E_SHENTSIZE) == SHENTSIZE
+    EHSIZE <= file.len()
+        && &file[..4] == ELFMAG
+        && file[EI_CLASS] == ELFCLASS64
+        && file[EI_DATA] == ELFDATA2LSB
+        && half(file, E_SHENTSIZE) == SHENTSIZE
 }
 
 // Whether there are section headers and a section name table, and both end within the file.
+#[tactic(auto, unfolding(crate::specs::Find::has_tables))]
 fn has_tables(file: &[u8]) -> bool
     requires { 64 ≤ length file.now }
     ensures { result ≡ has_tables file.now }
 {
     let count = half(file, E_SHNUM);
-    if count == 0 {
-        return false;
-    }
     let index = half(file, E_SHSTRNDX);
-    if count <= index {
-        return false;
-    }
     let headers = xword(file, E_SHOFF);
-    if file.len() < headers {
-        return false;
-    }
-    if file.len() - headers < SHENTSIZE * count {
-        return false;
-    }
-    ends_in_file(file, headers + SHENTSIZE * index)
+    index < count
+        && headers <= file.len()
+        && SHENTSIZE * count <= file.len() - headers
+        && ends_in_file(file, headers + SHENTSIZE * index)
 }
 
 // Whether the section whose header begins at a place ends within the file.
+#[tactic(auto, unfolding(crate::specs::Find::ends_in_file))]
 fn ends_in_file(file: &[u8], header: usize) -> bool
     requires { header + 64 ≤ length file.now }
     ensures { result ≡ ends_in_file file.now header }
 {
-    let start = xword(file, header + SH_OFFSET);
-    let size = xword(file, header + SH_SIZE);
-    if file.len() < start {
-        return false;
-    }
-    size <= file.len() - start
+    let part = section_part(file, header);
+    part.start <= file.len() && part.len <= file.len() - part.start
 }
 
 // Whether a section can have the name: it is not empty and holds no zero byte.
+#[tactic(auto, unfolding(crate::specs::Find::is_name))]
 fn is_name(name: &[u8]) -> bool
     ensures { result ≡ is_name name.now }
 {
-    if name.len() == 0 {
-        return false;
-    }
-    let mut i = 0;
-    while i < name.len() {
-        if name[i] == 0 {
-            return false;
-        }
-        i += 1;
-    }
-    true
+    !name.is_empty() && !name.contains(&0)
 }
 
 // The section name table, a part of the file.
 fn name_table<'a>(file: &'a [u8]) -> &'a [u8]
-    requires fact_1 { 64 ≤ length file.now }
-    requires fact_2 { SectionTables file.now }
+    requires long { 64 ≤ length file.now }
+    requires tables { SectionTables file.now }
     ensures { result.now ≡ section_in file.now (name_table file.now) }
 {
     let header = xword(file, E_SHOFF) + SHENTSIZE * half(file, E_SHSTRNDX);
-    let start = xword(file, header + SH_OFFSET);
-    let size = xword(file, header + SH_SIZE);
-    place::part(file, start, size)
+    section_part(file, header).of(file)
 }
 
 // The section of the first header, from 1 on, that has the name in the table.
-fn first_named(file: &[u8], table: &[u8], name: &[u8]) -> PartPlace
-    requires fact_1 { 64 ≤ length file.now }
-    requires fact_2 { SectionTables file.now }
-    requires fact_3 { table.now ≡ section_in file.now (name_table file.now) }
+#[tactic(auto, unfolding(crate::specs::Find::first_named))]
+fn first_named(file: &[u8], table: &[u8], name: &[u8]) -> Result<Part, Refusal>
+    requires long { 64 ≤ length file.now }
+    requires tables { SectionTables file.now }
+    requires names { table.now ≡ section_in file.now (name_table file.now) }
     ensures { found_part result ≡ first_named file.now name.now (of_file file.now e_shnum - 1) 1 }
 {
     let count = half(file, E_SHNUM);
     let headers = xword(file, E_SHOFF);
-    let mut i = 1;
-    while i < count {
+    for i in 1..count {
         let header = headers + SHENTSIZE * i;
         if is_named_at(table, word(file, header), name) {
             return header_section(file, header);
         }
-        i += 1;
     }
-    place::no_part(20)
+    place::no_part(RefusalKind::NoSuchSection)
 }
 
 // Whether the name stands in the table at an offset, and a zero byte of the table follows it. Most names are told apart by the
 // place of that byte.
+#[tactic(auto, unfolding(crate::specs::Find::is_named_at))]
 fn is_named_at(table: &[u8], offset: usize, name: &[u8]) -> bool
     ensures { result ≡ is_named_at table.now offset name.now }
 {
-    if table.len() <= offset {
+    let Some(rest) = table.get(offset..) else {
+        return false;
+    };
+    if rest.len() <= name.len() {
         return false;
     }
-    if table.len() - offset <= name.len() {
-        return false;
-    }
-    let end = offset + name.len();
-    if table[end] != 0 {
-        return false;
-    }
-    raw_bytes::same(&table[offset..end], name)
+    rest[name.len()] == 0 && &rest[..name.len()] == name
 }
 
 // The section whose header begins at a place.
-fn header_section(file: &[u8], header: usize) -> PartPlace
+#[tactic(auto, unfolding(crate::specs::Find::header_section))]
+fn header_section(file: &[u8], header: usize) -> Result<Part, Refusal>
     requires { header + 64 ≤ length file.now }
     ensures { found_part result ≡ header_section file.now header }
 {
     if word(file, header + SH_TYPE) == SHT_NOBITS {
-        return place::no_part(20);
+        return place::no_part(RefusalKind::NoSuchSection);
     }
     if !ends_in_file(file, header) {
-        return place::no_part(19);
+        return place::no_part(RefusalKind::BadSectionHeaders);
     }
-    PartPlace::Part {
+    Ok(section_part(file, header))
+}
+
+// Where the section is whose header begins at a place, as the header says.
+fn section_part(file: &[u8], header: usize) -> Part
+    requires { header + 64 ≤ length file.now }
+    ensures start { result.start ≡ field_in file.now header sh_offset }
+    ensures len { result.len ≡ field_in file.now header sh_size }
+{
+    Part {
         start: xword(file, header + SH_OFFSET),
         len: xword(file, header + SH_SIZE),
     }
 }
 
 // The number of two bytes at a place.
+#[tactic(auto, unfolding(crate::specs::Elf::little))]
 fn half(s: &[u8], at: usize) -> usize
     requires { at + 2 ≤ length s.now }
     ensures { (result ≡ little 2 s.now at) × (result < 65536) }
 {
-    let next = at + 1;
-    (raw_bytes::wide(s[at]) + 256 * raw_bytes::wide(s[next])) as usize
+    u16::from_le_bytes([s[at], s[at + 1]]) as usize
 }
 
 // The number of four bytes.
+#[tactic(auto, unfolding(crate::specs::Elf::little))]
 fn word(s: &[u8], at: usize) -> usize
     requires { at + 4 ≤ length s.now }
     ensures { (result ≡ little 4 s.now at) × (result < 4294967296) }
 {
-    raw_bytes::number_at(s, at) as usize
+    u32::from_le_bytes([s[at], s[at + 1], s[at + 2], s[at + 3]]) as usize
 }
 
 // The number of eight bytes.
+#[tactic(auto, unfolding(crate::specs::Elf::little))]
 fn xword(s: &[u8], at: usize) -> usize
     requires { at + 8 ≤ length s.now }
     ensures { result ≡ little 8 s.now at }
 {
-    word(s, at) + 4294967296 * word(s, at + 4)
+    u64::from_le_bytes([
+        s[at],
+        s[at + 1],
+        s[at + 2],
+        s[at + 3],
+        s[at + 4],
+        s[at + 5],
+        s[at + 6],
+        s[at + 7],
+    ]) as usize
 }

@@ -1,25 +1,20 @@
--- Too short a table, no zero byte, or the bytes before it.
-use native.Mathlib.Omega.{arith}
-use mathlib.Core.Path.{sym, ◌∙◌}
+-- No room for the name, another byte after it, or the bytes before that one.
+use Rattle.std.proofs.Common.{sym, ◌∙◌, ne_eqb}
 use Rattle.elf.proofs.Names.{named_short, named_other, named_end}
 use Rattle.elf.proofs.is_named_at.Goals as goal
 
-pub returns-then-table-offset : goal.returns-then-table-offset
-returns-then-table-offset c =
+pub returns-then-rest-name : goal.returns-then-rest-name
+returns-then-rest-name c =
     let args = c.args in
-    sym (named_short args.table.now args.offset args.name.now (omega arith))
+    sym (named_short args.table.now args.offset args.name.now _ c.in-Some.ensures.lookup.0.2 c.if-rest-name.true)
 
-pub returns-then-table-offset-2 : goal.returns-then-table-offset-2
-returns-then-table-offset-2 c =
+pub returns-then-rest-name-eq0 : goal.returns-then-rest-name-eq0
+returns-then-rest-name-eq0 c =
     let args = c.args in
-    sym (named_short args.table.now args.offset args.name.now (omega arith))
+    c.eq.ensures ∙ sym (named_end args.table.now args.offset args.name.now _ c.in-Some.ensures.lookup.0.2 c.if-rest-name.false c.if-rest-name-eq0.true)
 
-pub returns-then-table-end-ne0 : goal.returns-then-table-end-ne0
-returns-then-table-end-ne0 c =
+pub returns-else-rest-name-eq0 : goal.returns-else-rest-name-eq0
+returns-else-rest-name-eq0 c =
     let args = c.args in
-    sym (named_other args.table.now args.offset args.name.now (omega arith) c.if-table-end-ne0.true)
-
-pub returns : goal.returns
-returns c =
-    let args = c.args in
-    c.same.ensures ∙ sym (named_end args.table.now args.offset args.name.now (omega arith) c.if-table-end-ne0.false)
+    let other = c.if-rest-name-eq0.false in
+    ne_eqb _ 0 other ∙ sym (named_other args.table.now args.offset args.name.now _ c.in-Some.ensures.lookup.0.2 c.if-rest-name.false other)

@@ -59,7 +59,8 @@ pub fn list_refusal(refusal: Refusal, out: &mut [u8]) -> usize
     ensures out_after { out.new ≡ at_start (refusal_line (number_of refusal.kind) refusal.place) out.old }
     ensures upper_bound { result ≤ most_listed }
 {
-    let line = line(b"refuse", u64::from(refusal.kind.number()), refusal.place as u64);
+    let number = u64::from(refusal.kind.number());
+    let line = line(b"refuse", number, refusal.place as u64);
     put(out, 0, line.as_slice())
 }
 

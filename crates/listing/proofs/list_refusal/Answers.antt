@@ -14,5 +14,5 @@ returns c =
     let r = c.args.refusal in
     let l = refusal_line (number_of r.kind) r.place in
     let f = word_fits (ascii "refuse") (number_of r.kind) r.place (omega arith) (omega arith) (omega arith) in
-    let e = put_first l _ _ _ _ (c.as_slice.ensures.text ∙ c.line-line.ensures ∙ rw (c.from.ensures, c.number.ensures) (take_all most_line l f)) c.put.ensures in
+    let e = put_first l _ _ _ _ (c.as_slice.ensures.text ∙ c.line-line.ensures ∙ rw (c.from-number.ensures, c.number.ensures) (take_all most_line l f)) c.put.ensures in
     record { value = e.size; out_after = e.holds; upper_bound = omega (arith, e.size, f) }

@@ -10,7 +10,7 @@ use borrow.Author.Tests.{le-leb, lt-leb, leb-true}
 use Rattle.layout.specs.Written.{four, sort_at, offset_at, value_at}
 use Rattle.layout.specs.Answers.{whole_rows}
 use Rattle.paste.specs.Pasted.{pasted}
-use Rattle.paste.proofs.Pasted.{pasted_none, pasted_append}
+use Rattle.paste.proofs.Pasted.{pasted_none, pasted_append, pasted_length}
 use Rattle.storing.specs.Private.{text_bytes, row_bytes, Spot, spot, stored_bytes, stored_row, stored_rows, is_kind, next_kind, entity_end, stored_payload}
 
 module _ (b : List ℕ) (at : ℕ) (dest : List ℕ) where
@@ -24,16 +24,16 @@ module _ (b : List ℕ) (at : ℕ) (dest : List ℕ) where
   bytes_left h = rw (lt-leb (at + length b) (length dest) h)
 
   -- The next place is not before this one, nor beyond the end
-  between : at ≤ length dest → (at ≤ (stored_bytes b (spot at dest)).at) × ((stored_bytes b (spot at dest)).at ≤ length dest)
+  between : at ≤ length dest → let q = stored_bytes b (spot at dest) in (at ≤ q.at) × (q.at ≤ length q.dest)
   unfolding stored_bytes
   between h = go (leb (at + length b) (length dest)) refl
     where
-      go : (c : Bool) → leb (at + length b) (length dest) ≡ c → let q = cond c (spot (at + length b) (pasted dest at b)) (spot at dest) in (at ≤ q.at) × (q.at ≤ length dest)
-      go true e = (omega arith, leb-true _ _ e)
+      go : (c : Bool) → leb (at + length b) (length dest) ≡ c → let q = cond c (spot (at + length b) (pasted dest at b)) (spot at dest) in (at ≤ q.at) × (q.at ≤ length q.dest)
+      go true e = (omega arith, omega (arith, leb-true _ _ e, pasted_length dest at b))
       go false e = (omega arith, h)
 
-  pub bytes_between : at ≤ length dest → (r : ℕ) (after : List ℕ) → spot r after ≡ stored_bytes b (spot at dest) → (at ≤ r) × (r ≤ length dest)
-  bytes_between h r after e = let (x, y) = between h in let q = ap (λ (p : Spot). p.at) e in (omega arith, omega arith)
+  pub bytes_between : at ≤ length dest → (r : ℕ) (after : List ℕ) → spot r after ≡ stored_bytes b (spot at dest) → (at ≤ r) × (r ≤ length after)
+  bytes_between h r after e = rw (← e) at between h
 
 -- A text within the lent bytes
 pub text_there : (text : List ℕ) (start size : ℕ) → leb (start + size) (length text) ≡ true → text_bytes text start size ≡ four size ++ take size (drop start text)
@@ -121,12 +121,12 @@ module _ (rows : List ℕ) where
       next_later n i (omega arith) (q i (omega arith) (omega arith)) ∙ next_past m n (i + 1) (omega arith) (λ k a b. q k (omega arith) (omega arith)) ∙ ap (λ (j : ℕ). next_kind rows (n - j) j) e
 
 -- The end of a payload, from what its first row and the others stored
-module _ (rows text : List ℕ) (first begin : ℕ) (dest : List ℕ) (k : begin ≤ length dest) (at₀ : ℕ) (dest₀ : List ℕ) (e : spot at₀ dest₀ ≡ stored_row rows text first (spot begin dest)) (l : length dest₀ ≡ length dest) where
-  pub payload_ends : (i at : ℕ) (after : List ℕ) → at₀ ≤ at → at ≤ length after → length after ≡ length dest₀ → entity_end rows first ≡ i
-      → stored_rows rows text (entity_end rows first - (first + 1)) (first + 1) (spot at₀ dest₀) ≡ stored_rows rows text (entity_end rows first - i) i (spot at after)
-      → (i ≡ entity_end rows first) × (((begin ≤ at) × (at ≤ length dest)) × (spot at after ≡ stored_payload rows text first (spot begin dest)))
-  payload_ends i at after m n o q s =
+module _ (rows text : List ℕ) (first begin : ℕ) (dest : List ℕ) (k : begin ≤ length dest) (p : Spot) (e : p ≡ stored_row rows text first (spot begin dest)) where
+  pub payload_ends : (i : ℕ) (q : Spot) → p.at ≤ q.at → entity_end rows first ≡ i
+      → stored_rows rows text (entity_end rows first - (first + 1)) (first + 1) p ≡ stored_rows rows text (entity_end rows first - i) i q
+      → (i ≡ entity_end rows first) × ((begin ≤ q.at) × (q ≡ stored_payload rows text first (spot begin dest)))
+  payload_ends i q m r s =
       let end = entity_end rows first in
-      let (b, u) = bytes_between (row_bytes rows text first) begin dest k at₀ dest₀ e in
+      let (b, u) = bytes_between (row_bytes rows text first) begin dest k p.at p.dest e in
       let some : first < end = omega (arith, next_above rows (whole_rows rows - (first + 1)) (first + 1)) in
-      (sym q, ((omega arith, omega arith), sym (rows_step rows text end first (spot begin dest) some (spot at₀ dest₀) e ∙ s ∙ rows_done rows text end i (spot at after) (omega arith))))
+      (sym r, (omega arith, sym (rows_step rows text end first (spot begin dest) some p e ∙ s ∙ rows_done rows text end i q (omega arith))))

@@ -1,2 +1,3 @@
 pub mod Storing
 pub mod Private
+pub mod Output

@@ -1,11 +1,11 @@
 // The second pass over the rows of a writing, once nothing is refused: their bytes are stored, row after row, or as entries.
 #![tactic(auto)]
 
-ghost use Rattle.std.specs.Prelude.{◌≡◌, [], ◌∷◌, ◌+◌, ◌%◌, ◌<◌, ◌≤◌, length};
-ghost use Rattle.layout.specs.Written.{four};
+ghost use Rattle.std.specs.Prelude.{◌≡◌, ◌<◌, ◌≤◌, length};
 ghost use Rattle.layout.specs.Answers.{whole_rows};
 ghost use Rattle.storing.specs.Storing.{Stores, StoresEntries};
-ghost use Rattle.storing.specs.Private.{spot, text_bytes, stored_bytes, stored_row, entity_end, stored_payload, length_stored};
+ghost use Rattle.storing.specs.Private.{text_bytes, stored_bytes, stored_row, entity_end, stored_payload};
+ghost use Rattle.storing.specs.Output.{spot_of};
 
 use layout::ROW_WIDTH;
 use table::Row;
@@ -15,9 +15,9 @@ use table::Row;
 pub fn store(rows: &[u32], text: &[u8], dest: &mut [u8])
     ensures { Stores rows.now text.now dest.old dest.new }
 {
-    let mut at = 0;
+    let mut out = Output { dest, at: 0 };
     for i in 0..rows.len() / ROW_WIDTH {
-        at = store_next(rows, text, dest, i, at);
+        out.push_row(rows, text, i);
     }
 }
 
@@ -27,97 +27,92 @@ pub fn store(rows: &[u32], text: &[u8], dest: &mut [u8])
 pub fn store_entries(rows: &[u32], text: &[u8], dest: &mut [u8])
     ensures { StoresEntries rows.now text.now dest.old dest.new }
 {
-    let mut at = 0;
+    let mut out = Output { dest, at: 0 };
     let mut i = 0;
     while i < rows.len() / ROW_WIDTH {
-        if dest.len() - at < 4 {
+        if out.dest.len() - out.at < 4 {
             return;
         }
-        let end = store_payload(rows, text, dest, i, at + 4);
-        put_length(dest, at, end.at);
-        at = end.at;
-        i = end.row;
+        let begin = out.at;
+        out.at += 4;
+        i = out.push_payload(rows, text, i);
+        let length = (out.at - begin - 4) % 4294967296;
+        raw_bytes::put_number(out.dest, begin, length as u32);
     }
 }
 
-// Where storing goes on: the next row, and the place in the destination.
-#[derive(Clone, Copy)]
-struct End {
-    row: usize,
+// Where storing goes on: a place in a destination.
+#[derive(Drop)]
+struct Output<'a> {
+    dest: &'a mut [u8],
     at: usize,
 }
 
-// Stores the row of a kind and those after it, up to the next kind.
-fn store_payload(rows: &[u32], text: &[u8], dest: &mut [u8], first: usize, begin: usize) -> End
-    requires { (first < whole_rows rows.now) × (begin ≤ length dest.old) }
-    ensures row_value { result.row ≡ entity_end rows.now first }
-    ensures begin_le_at { (begin ≤ result.at) × (result.at ≤ length dest.old) }
-    ensures dest_after { spot result.at dest.new ≡ stored_payload rows.now text.now first (spot begin dest.old) }
-{
-    let mut at = store_next(rows, text, dest, first, begin);
-    for i in first + 1..rows.len() / ROW_WIDTH {
-        if table::row_at(rows, i).sort == layout::SORT_KIND {
-            return End { row: i, at };
+impl Output<'_> {
+    // Stores the row of a kind and those after it, up to the next kind, and answers where that is.
+    fn push_payload(&mut self, rows: &[u32], text: &[u8], first: usize) -> usize
+        requires { (first < whole_rows rows.now) × (self.old.at ≤ length self.old.dest.now) }
+        ensures lent { self.new.dest.ghost_name ≡ self.old.dest.ghost_name }
+        ensures end { result ≡ entity_end rows.now first }
+        ensures within { (self.old.at ≤ self.new.at) × (self.new.at ≤ length self.new.dest.now) }
+        ensures stored { spot_of self.new ≡ stored_payload rows.now text.now first (spot_of self.old) }
+    {
+        self.push_row(rows, text, first);
+        for i in first + 1..rows.len() / ROW_WIDTH {
+            if table::row_at(rows, i).sort == layout::SORT_KIND {
+                return i;
+            }
+            self.push_row(rows, text, i);
         }
-        at = store_next(rows, text, dest, i, at);
+        rows.len() / ROW_WIDTH
     }
-    End {
-        row: rows.len() / ROW_WIDTH,
-        at,
-    }
-}
 
-// Stores a row if it fits, and answers where the next one goes.
-#[tactic(auto, unfolding(crate::specs::Private::row_bytes, table::specs::Table::row_of))]
-fn store_next(rows: &[u32], text: &[u8], dest: &mut [u8], i: usize, at: usize) -> usize
-    requires { (i < whole_rows rows.now) × (at ≤ length dest.old) }
-    ensures { spot result dest.new ≡ stored_row rows.now text.now i (spot at dest.old) }
-{
-    let row = table::row_at(rows, i);
-    if row.sort <= layout::SORT_FLAG {
-        return store_bytes(dest, &[(row.value % 256) as u8], at);
+    // Stores a row if it fits.
+    #[tactic(auto, unfolding(crate::specs::Private::row_bytes, table::specs::Table::row_of))]
+    fn push_row(&mut self, rows: &[u32], text: &[u8], i: usize)
+        requires { (i < whole_rows rows.now) × (self.old.at ≤ length self.old.dest.now) }
+        ensures lent { self.new.dest.ghost_name ≡ self.old.dest.ghost_name }
+        ensures stored { spot_of self.new ≡ stored_row rows.now text.now i (spot_of self.old) }
+    {
+        let row = table::row_at(rows, i);
+        if row.sort <= layout::SORT_FLAG {
+            self.push(&[(row.value % 256) as u8]);
+        } else if row.sort <= layout::SORT_COUNT {
+            self.push(&row.value.to_le_bytes());
+        } else {
+            self.push_text(text, row);
+        }
     }
-    if row.sort <= layout::SORT_COUNT {
-        return store_bytes(dest, &row.value.to_le_bytes(), at);
-    }
-    store_text(text, dest, row, at)
-}
 
-// Stores bytes if they fit, and answers where the next ones go.
-#[tactic(auto, unfolding(crate::specs::Private::stored_bytes, paste::specs::Pasted::pasted))]
-fn store_bytes(dest: &mut [u8], bytes: &[u8], at: usize) -> usize
-    requires { at ≤ length dest.old }
-    ensures { spot result dest.new ≡ stored_bytes bytes.now (spot at dest.old) }
-{
-    if dest.len() - at < bytes.len() {
-        return at;
+    // Stores a text after its length, unless it leaves the lent bytes.
+    fn push_text(&mut self, text: &[u8], row: Row)
+        requires { self.old.at ≤ length self.old.dest.now }
+        ensures lent { self.new.dest.ghost_name ≡ self.old.dest.ghost_name }
+        ensures stored { spot_of self.new ≡ stored_bytes (text_bytes text.now row.offset row.value) (spot_of self.old) }
+    {
+        let start = row.offset as usize;
+        let Some(bytes) = text.get(start..start + row.value as usize) else {
+            return;
+        };
+        let end = self.at + 4 + bytes.len();
+        if end <= self.dest.len() {
+            self.push(&row.value.to_le_bytes());
+            paste::paste(self.dest, self.at, bytes);
+            self.at = end;
+        }
     }
-    let end = at + bytes.len();
-    dest[at..end].copy_from_slice(bytes);
-    end
-}
 
-// A text is stored after its length, unless it leaves the lent bytes.
-fn store_text(text: &[u8], dest: &mut [u8], row: Row, at: usize) -> usize
-    requires { at ≤ length dest.old }
-    ensures { spot result dest.new ≡ stored_bytes (text_bytes text.now row.offset row.value) (spot at dest.old) }
-{
-    let start = row.offset as usize;
-    let Some(bytes) = text.get(start..start + row.value as usize) else {
-        return at;
-    };
-    if dest.len() - at < 4 + bytes.len() {
-        return at;
+    // Stores bytes if they fit.
+    #[tactic(auto, unfolding(crate::specs::Private::stored_bytes, paste::specs::Pasted::pasted))]
+    fn push(&mut self, bytes: &[u8])
+        requires { self.old.at ≤ length self.old.dest.now }
+        ensures lent { self.new.dest.ghost_name ≡ self.old.dest.ghost_name }
+        ensures stored { spot_of self.new ≡ stored_bytes bytes.now (spot_of self.old) }
+    {
+        let end = self.at + bytes.len();
+        if end <= self.dest.len() {
+            self.dest[self.at..end].copy_from_slice(bytes);
+            self.at = end;
+        }
     }
-    let after = store_bytes(dest, &row.value.to_le_bytes(), at);
-    paste::paste(dest, after, bytes);
-    at + 4 + bytes.len()
-}
-
-// Stores the length of the payload of an entry that begins and ends at given places.
-fn put_length(dest: &mut [u8], begin: usize, end: usize)
-    requires { begin + 4 ≤ end }
-    ensures { dest.new ≡ length_stored begin end dest.old }
-{
-    raw_bytes::put_number(dest, begin, ((end - begin - 4) % 4294967296) as u32);
 }

@@ -1,5 +1,6 @@
 -- The SQL text of a mapping, from its reading.
 use Prim.Native.Nat.{ℕ, ◌+◌, ◌-◌, ◌*◌, ◌≤◌, ◌<◌}
+use native.Mathlib.Nat.{add-zero, zero-add}
 use native.Mathlib.Omega.{arith}
 use mathlib.Core.Bool.{Bool, true, false, cond}
 use mathlib.Core.List.{List, [], ◌∷◌, ◌++◌, append-nil}
@@ -17,29 +18,33 @@ use Rattle.layout.specs.Answers.{limit}
 use Rattle.layout.specs.Theorems.{Bytes}
 use Rattle.layout.proofs.Equations.{read_check}
 use Rattle.layout.proofs.InBytes.{rest_after, read_sound}
-use Rattle.leaf.specs.declared.Cursor.{Cursor}
+use Rattle.pass.specs.Pass.{Runs}
+use Rattle.leaf.specs.declared.Reader.{Reader}
+use Rattle.leaf.specs.Reader.{cursor_of, state_of, lent_of, reader_meaning}
 use Rattle.reading.specs.State.{ReadState, read_state, new_cursor, seek}
 use Rattle.reading.specs.Run.{run}
 use Rattle.reading.specs.Theorems.{arrive_all, Follows}
 use Rattle.reading.proofs.Reading.{arrive_all_refusal, moved_of, stops_of, run_read}
+use Rattle.reading.proofs.Answered.{run_length}
 use Rattle.sql_text.specs.declared.Found.{Found}
 use Rattle.sql_text.specs.declared.Found.TheVariants.{Stored, Numeric as Numeric'}
-use Rattle.numeric.specs.declared.OptionU32.{OptionU32}
-use Rattle.sql_text.specs.declared.SqlPlace.{SqlPlace}
-use Rattle.place.specs.Place.{number_in, place_in}
+use Rattle.std.specs.Prelude.{Option, Result, Ok, Err, IfOk}
+use Rattle.table.specs.declared.Refusal.{Refusal}
+use Rattle.table.specs.declared.RefusalKind.TheVariants.{BadBufferSize}
+use Rattle.paste.specs.Pasted.{pasted}
 use Rattle.numeric.specs.Numeric.{numeric_size, option_of}
-use Rattle.sql_text.specs.SqlText.{TextMapping, SqlText, in_section, in_buffer, number_if, text_of_leaves, sql_text_of, sql_text, SqlAnswer, sql_answer, sql_answer_of}
+use Rattle.sql_text.specs.SqlText.{TextMapping, SqlText, in_section, in_buffer, number_if, text_of_leaves, sql_text_of, sql_text, sql_answer}
 use Rattle.sql_text.specs.Theorems.{AsPart, FilledPart}
-use Rattle.sql_text.specs.Private.{outcome_of, no_text, sized_for, Within}
+use Rattle.sql_text.specs.Private.{text_found, outcome_of, sized_for}
 
 -- What the code finds is correct
-abbrev pub Right : (s : List ℕ) (at size : ℕ) → Found → Type 0
-Right s at size r = (outcome_of r ≡ sql_text s at size) × Within (length s) size r
+abbrev pub Right : (s : List ℕ) (at size : ℕ) → Result Found Refusal → Type 0
+Right s at size r = (outcome_of r ≡ sql_text s at size) × IfOk r (λ found. size ≡ numeric_size)
 
 module _ (s : List ℕ) (at size : ℕ) where
-  pub too_long : limit < length s → Right s at size (no_text 1 0)
+  pub too_long : limit < length s → refuse 1 0 ≡ sql_text s at size
   unfolding sql_text
-  too_long h = (rw (lt-leb (length s) limit h), tt)
+  too_long h = rw (lt-leb (length s) limit h)
 
   module _ (small : length s ≤ limit) where
     refused : (n p : ℕ) → read SqlMapping s at ≡ refuse n p → refuse n p ≡ sql_text s at size
@@ -56,19 +61,21 @@ module _ (s : List ℕ) (at size : ℕ) where
       unfolding sql_text TextMapping
       good v = rw (le-leb (length s) limit small, read_check SqlMapping (λ values. as_or_numeric 1 (get_or values 0 0)) s at, e, v)
 
-      good_as : value_in ls 0 ≡ 1 → (x : ℕ) → at + 5 + x ≡ end → sql_text s at size ≡ need (eqb size numeric_size) 17 0 (outcome_of (Stored (at + 5) x))
+      good_as : value_in ls 0 ≡ 1 → (x : ℕ) → at + 5 + x ≡ end → sql_text s at size ≡ need (eqb size numeric_size) 17 0 (ok (in_section (at + 5)) (at + 5 + x))
       good_as h x l = good (rw h) ∙ rw (h, l)
 
-      good_numeric : value_in ls 0 ≡ 3 → (p q : OptionU32) → option_of p ≡ number_if (value_in ls 1) (value_in ls 2) → option_of q ≡ number_if (value_in ls 3) (value_in ls 4)
-          → sql_text s at size ≡ need (eqb size numeric_size) 17 0 (outcome_of (Numeric' p q))
+      good_numeric : value_in ls 0 ≡ 3 → (p q : Option ℕ) → option_of p ≡ number_if (value_in ls 1) (value_in ls 2) → option_of q ≡ number_if (value_in ls 3) (value_in ls 4)
+          → sql_text s at size ≡ need (eqb size numeric_size) 17 0 (text_found (Numeric' p q))
       good_numeric h p q hp hq = good (rw h) ∙ rw (h, hp, hq)
 
-  sized_right : (found : Found) → sql_text s at size ≡ need (eqb size numeric_size) 17 0 (outcome_of found) → (size ≡ numeric_size → Within (length s) size found)
-      → Right s at size (sized_for size found)
-  sized_right found e w = rw e (go (eqb size numeric_size) refl)
+  sized_right : (found : Found) → sql_text s at size ≡ need (eqb size numeric_size) 17 0 (text_found found) → Right s at size (sized_for size found)
+  sized_right found e = rw e (go (eqb size numeric_size) refl)
     where
-      go : (b : Bool) → eqb size numeric_size ≡ b → (outcome_of (cond b found (no_text 17 0)) ≡ need b 17 0 (outcome_of found)) × Within (length s) size (cond b found (no_text 17 0))
-      go true h = (refl, w (eqb-true size numeric_size h))
+      sized : Bool → Result Found Refusal
+      sized b = cond b (Ok found) (Err (record { kind = BadBufferSize; place = 0 }))
+
+      go : (b : Bool) → eqb size numeric_size ≡ b → (outcome_of (sized b) ≡ need b 17 0 (text_found found)) × IfOk (sized b) (λ found. size ≡ numeric_size)
+      go true h = (refl, eqb-true size numeric_size h)
       go false h = (refl, tt)
 
 -- The bytes at a place, the first of which is n
@@ -85,7 +92,7 @@ as_length : (ls others : List Leaf) (n : ℕ) (t : List ℕ) → ls ≡ plain Ta
 as_length ls others n t a b = rw (a, b, append-nil t) (omega arith)
 
 -- A table of five rows has the values of a Numeric mapping's leaves
-abbrev begun : ℕ → ReadState
+abbrev pub begun : ℕ → ReadState
 begun at = read_state (seek at new_cursor) (replicate (5 * row_width) 0)
 
 values : (at : ℕ) (ls : List Leaf) (f p g q : ℕ) (r : ReadState) → ls ≡ plain Tag 3 ∷ plain Flag f ∷ plain Number p ∷ plain Flag g ∷ plain Number q ∷ []
@@ -127,11 +134,27 @@ module _ (s : List ℕ) (u : Bytes s) (at : ℕ) (ls : List Leaf) (end : ℕ) (e
       → (f p g q : ℕ) × (ls ≡ plain Tag 3 ∷ plain Flag f ∷ plain Number p ∷ plain Flag g ∷ plain Number q ∷ [])) k
       (λ w e. (w.0, w.1.0, w.1.1.0, w.1.1.1, e)) tagged.1 tagged.2
 
--- The reading by a cursor, with a table of five rows
-module _ (s : List ℕ) (at size : ℕ) (small : length s ≤ limit) (c : Cursor) (b : c ≡ seek at new_cursor) (r : ReadState)
-    (e : r ≡ run SqlMapping s (read_state c (replicate (5 * row_width) 0))) where
+-- The reading of a mapping, as the code makes it: r is the reader after it
+pub record Read (s : List ℕ) (at : ℕ) (r : Reader) : Type 0 where
+  pub state : state_of r ≡ run SqlMapping s (begun at)
+  pub bytes : r.s.now ≡ s
+
+-- From a new reader p, which is q at the place
+pub read_there : (s : List ℕ) (at : ℕ) (p q r : Reader) → p.s.now ≡ s → state_of p ≡ read_state new_cursor (replicate (5 * row_width) 0)
+    → lent_of q ≡ lent_of p → state_of q ≡ read_state (seek at (cursor_of p)) p.t.now → Runs reader_meaning SqlMapping q r → Read s at r
+read_there s at p q r a b e f g =
+    let i : q.s.now ≡ s = ap (λ (x : List ℕ × _). x.0) e ∙ a in
+    let j : state_of q ≡ begun at = f ∙ ap (λ (st : ReadState). read_state (seek at st.cursor) st.table) b in
+    record { state = g.state ∙ rw (i, j); bytes = ap (λ (x : List ℕ × _). x.0) g.lent ∙ i }
+
+-- Its tag
+pub tag_there : (s : List ℕ) (at : ℕ) (r : Reader) → Read s at r → (x : ℕ) → x ≡ get_or r.s.now (at + 0) 0 → (n : ℕ) → x ≡ n → get_or s at 0 ≡ n
+tag_there s at r h x e n k = sym (e ∙ rw (h.bytes, add-zero)) ∙ k
+
+-- The reading, with a table of five rows
+module _ (s : List ℕ) (at size : ℕ) (small : length s ≤ limit) (r : ReadState) (e : r ≡ run SqlMapping s (begun at)) where
   followed : Follows (begun at) r (read SqlMapping s at)
-  followed = rw (e, b) (run_read s small SqlMapping (begun at) refl)
+  followed = rw e (run_read s small SqlMapping (begun at) refl)
 
   stop_read : (r.cursor.refusal ≡ 0 → ⊥) → read SqlMapping s at ≡ refuse r.cursor.refusal r.cursor.at
   stop_read h = go (read SqlMapping s at) followed
@@ -140,8 +163,11 @@ module _ (s : List ℕ) (at size : ℕ) (small : length s ≤ limit) (c : Cursor
       go (ok ls end) f = absurd (h (ap (λ (x : ReadState). x.cursor.refusal) (moved_of f).0 ∙ arrive_all_refusal ls (begun at)))
       go (refuse n p) f = rw ((stops_of f).0, (stops_of f).2)
 
-  pub stop_right : (r.cursor.refusal ≡ 0 → ⊥) → Right s at size (no_text r.cursor.refusal r.cursor.at)
-  stop_right h = (refused s at size small r.cursor.refusal r.cursor.at (stop_read h), tt)
+  pub rows_left : length r.table ≡ 5 * row_width
+  rows_left = ap (λ (x : ReadState). length x.table) e ∙ run_length SqlMapping s (begun at)
+
+  pub stop_right : (r.cursor.refusal ≡ 0 → ⊥) → refuse r.cursor.refusal r.cursor.at ≡ sql_text s at size
+  stop_right h = refused s at size small r.cursor.refusal r.cursor.at (stop_read h)
 
   module _ (u : Bytes s) (z : r.cursor.refusal ≡ 0) where
     was_read : (ls : List Leaf) × (end : ℕ) × (read SqlMapping s at ≡ ok ls end) × (r ≡ arrive_all ls (begun at)) × (r.cursor.at ≡ end)
@@ -152,49 +178,40 @@ module _ (s : List ℕ) (at size : ℕ) (small : length s ≤ limit) (c : Cursor
         go (ok ls end) f q = (ls, end, q, (moved_of f).0, (moved_of f).1)
         go (refuse n p) f q = absurd ((stops_of f).1 (sym (stops_of f).0 ∙ z))
 
-    pub tag_left : at + 1 ≤ length s
-    tag_left = let (ls, end, q, m, k) = was_read in (tagged s u at ls end q).4
-
-    pub other_right : (get_or s at 0 ≡ 1 → ⊥) → (get_or s at 0 ≡ 3 → ⊥) → Right s at size (no_text 10 at)
+    pub other_right : (get_or s at 0 ≡ 1 → ⊥) → (get_or s at 0 ≡ 3 → ⊥) → refuse 10 at ≡ sql_text s at size
     other_right h k =
         let (ls, end, q, m, l) = was_read in
         let f = first s u at ls end q in
-        (other s at size small ls end q (λ x. h (sym f ∙ x)) (λ x. k (sym f ∙ x)), tt)
+        other s at size small ls end q (λ x. h (sym f ∙ x)) (λ x. k (sym f ∙ x))
 
     pub as_begins : get_or s at 0 ≡ 1 → at + 5 ≤ r.cursor.at
     as_begins h = let (ls, end, q, m, l) = was_read in omega (arith, as_ends s u at ls end q h)
 
-    pub as_right : get_or s at 0 ≡ 1 → Right s at size (sized_for size (Stored (at + 5) (r.cursor.at - (at + 5))))
+    pub as_right : get_or s at 0 ≡ 1 → Right s at size (sized_for size (Stored (record { start = at + 5; len = r.cursor.at - (at + 5) })))
     as_right h =
         let (ls, end, q, m, l) = was_read in
         let f = first s u at ls end q ∙ h in
-        let w : end ≤ length s = (tagged s u at ls end q).5 in
         let k : at + 5 + (r.cursor.at - (at + 5)) ≡ end = omega (arith, as_begins h) in
-        sized_right s at size (Stored (at + 5) (r.cursor.at - (at + 5))) (good_as s at size small ls end q f (r.cursor.at - (at + 5)) k) (λ x. omega arith)
+        sized_right s at size (Stored (record { start = at + 5; len = r.cursor.at - (at + 5) })) (good_as s at size small ls end q f (r.cursor.at - (at + 5)) k)
 
-    pub numeric_right : get_or s at 0 ≡ 3 → (p q : OptionU32) → option_of p ≡ number_if (value_at r.table 1) (value_at r.table 2)
+    pub numeric_right : get_or s at 0 ≡ 3 → (p q : Option ℕ) → option_of p ≡ number_if (value_at r.table 1) (value_at r.table 2)
         → option_of q ≡ number_if (value_at r.table 3) (value_at r.table 4) → Right s at size (sized_for size (Numeric' p q))
     numeric_right h p q hp hq =
         let (ls, end, i, m, l) = was_read in
         let (x₁, x₂, x₃, x₄, k) = numeric_leaves s u at ls end i h in
         let (v₁, v₂, v₃, v₄) = values at ls x₁ x₂ x₃ x₄ r k m in
-        sized_right s at size (Numeric' p q) (good_numeric s at size small ls end i (first s u at ls end i ∙ h) p q (hp ∙ rw (v₁, v₂)) (hq ∙ rw (v₃, v₄))) (λ x. x)
+        sized_right s at size (Numeric' p q) (good_numeric s at size small ls end i (first s u at ls end i ∙ h) p q (hp ∙ rw (v₁, v₂)) (hq ∙ rw (v₃, v₄)))
+
+-- A text at the start of a buffer that has room for it
+pub pasted_start : (buffer text : List ℕ) → length text ≤ length buffer → pasted buffer 0 text ≡ text ++ drop (length text) buffer
+unfolding pasted
+pasted_start buffer text h = rw (zero-add, le-leb (length text) (length buffer) h)
 
 -- A text in the section, as an answer
 pub stored_answer : (start len : ℕ) (o : Outcome ℕ SqlText) → ok (in_section start) (start + len) ≡ o → record { number = 0; place = 0; buffered = false; begin = start; len = len } ≡ sql_answer o
 stored_answer start len o e =
     let l : len ≡ start + len - start = omega arith in
     ap (λ (n : ℕ). record { number = 0; place = 0; buffered = false; begin = start; len = n }) l ∙ ap sql_answer e
-
-pub told : (o : Outcome ℕ SqlText) (q r : SqlPlace) → q ≡ r → sql_answer_of q ≡ sql_answer o → ((sql_answer_of r).number ≡ number_in o) × ((sql_answer_of r).place ≡ place_in o)
-told o q r k h =
-    let e : sql_answer_of r ≡ sql_answer o = ap sql_answer_of (sym k) ∙ h in
-    (ap (λ (a : SqlAnswer). a.number) e ∙ (go o).0, ap (λ (a : SqlAnswer). a.place) e ∙ (go o).1)
-  where
-    go : (m : Outcome ℕ SqlText) → ((sql_answer m).number ≡ number_in m) × ((sql_answer m).place ≡ place_in m)
-    go (ok (in_section start) end) = (refl, refl)
-    go (ok (in_buffer t) end) = (refl, refl)
-    go (refuse n p) = (refl, refl)
 
 pub as_part : AsPart
 as_part s small u at t end e buffer =

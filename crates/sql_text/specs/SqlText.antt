@@ -1,12 +1,14 @@
 -- The SQL text of a mapping, with the refusals 1, 5 to 7, 9, 10 and 17 (docs/FORMAT.md, Texts, SQL names and SQL texts).
-use Rattle.std.specs.Prelude.{ℕ, ◌+◌, ◌-◌, Bool, true, false, cond, List, [], ◌++◌, eqb, leb, length, get_or, take, drop}
+use Rattle.std.specs.Prelude.{ℕ, ◌+◌, ◌-◌, Bool, true, false, cond, List, [], ◌++◌, eqb, leb, length, get_or, take, drop, Result, Ok, Err}
 use Rattle.std.proofs.Math.Option.{Option, none, some}
 use Rattle.layout.specs.Layout.{Leaf, Layout, check}
 use Rattle.layout.specs.Entities.{SqlMapping, value_in, as_or_numeric}
 use Rattle.layout.specs.Reading.{Outcome, ok, refuse, ◌>>=◌, need, read}
 use Rattle.layout.specs.Answers.{limit}
 use Rattle.sql_text.specs.declared.SqlPlace.{SqlPlace}
-use Rattle.sql_text.specs.declared.SqlPlace.TheVariants.{Section, Buffer, Refused}
+use Rattle.sql_text.specs.declared.SqlPlace.TheVariants.{Section, Buffer}
+use Rattle.table.specs.declared.Refusal.{Refusal}
+use Rattle.table.specs.Answers.{number_of}
 use Rattle.place.specs.Place.{between}
 use Rattle.numeric.specs.Numeric.{numeric_text, numeric_size}
 
@@ -71,8 +73,12 @@ sql_answer (ok (in_section start) end) = record { number = 0; place = 0; buffere
 sql_answer (ok (in_buffer text) end) = record { number = 0; place = 0; buffered = true; begin = 0; len = end }
 sql_answer (refuse number place) = refused_sql number place
 
+-- The meaning of each place of an SQL text
+abbrev pub sql_placed : SqlPlace → SqlAnswer
+sql_placed (Section part) = record { number = 0; place = 0; buffered = false; begin = part.start; len = part.len }
+sql_placed (Buffer len) = record { number = 0; place = 0; buffered = true; begin = 0; len = len }
+
 -- The meaning of each case of the code's answer
-abbrev pub sql_answer_of : SqlPlace → SqlAnswer
-sql_answer_of (Section start len) = record { number = 0; place = 0; buffered = false; begin = start; len = len }
-sql_answer_of (Buffer len) = record { number = 0; place = 0; buffered = true; begin = 0; len = len }
-sql_answer_of (Refused refusal) = refused_sql refusal.number refusal.place
+abbrev pub sql_answer_of : Result SqlPlace Refusal → SqlAnswer
+sql_answer_of (Ok place) = sql_placed place
+sql_answer_of (Err refusal) = refused_sql (number_of refusal.kind) refusal.place

@@ -1,60 +1,70 @@
 -- Too many bytes, a mapping that is refused, As, Numeric, or another mapping.
-use Rattle.sql_text.proofs.SqlText.{too_long, stop_right, tag_left, as_begins, as_right, numeric_right, other_right}
-use mathlib.Core.Path.{sym, ◌∙◌}
 use native.Mathlib.Omega.{arith}
+use mathlib.Core.Path.{refl, sym, ap, ◌∙◌}
+use Rattle.leaf.specs.Reader.{refusal_number, state_of}
+use Rattle.leaf.proofs.Leaves.{number_not_0}
+use Rattle.sql_text.proofs.SqlText.{too_long, read_there, tag_there, stop_right, rows_left, as_begins, as_right, numeric_right, other_right}
 use Rattle.sql_text.proofs.find_sql_text.Goals as goal
 
-pub returns-then-section-gt-LIMIT : goal.returns-then-section-gt-LIMIT
-returns-then-section-gt-LIMIT c =
-    rw c.not_found.ensures (too_long c.args.section.now c.args.offset c.args.size c.if-section-gt-LIMIT.true)
+pub returns-then-section-gt-LIMIT-clause-value : goal.returns-then-section-gt-LIMIT-clause-value
+returns-then-section-gt-LIMIT-clause-value c = rw c.at.ensures (too_long c.args.section.now c.args.offset c.args.size c.if-section-gt-LIMIT.true)
 
-pub returns-then-c-ne0 : goal.returns-then-c-ne0
-returns-then-c-ne0 c =
-    let if1 = c.if-section-gt-LIMIT in
-    let cursor-at = c.cursor_at in
-    let read-sql-mapping = c.read_sql_mapping-c in
-    rw c.not_found-then-c-ne0.ensures (stop_right c.args.section.now c.args.offset c.args.size if1.false _ cursor-at.ensures _ read-sql-mapping.ensures c.if-c-ne0.true)
+pub returns-in-Some-clause-value : goal.returns-in-Some-clause-value
+returns-in-Some-clause-value c =
+    let s = c.args.section.now in
+    let new = c.new-reader in
+    let end = c.sql_mapping.new.p in
+    let h = read_there s c.args.offset new.result c.seek.new.self end new.ensures.bytes new.ensures.state c.seek.ensures.lent c.seek.ensures.state c.sql_mapping.ensures in
+    let q = ap refusal_number c.in-Some.is in
+    rw (c.at-in-Some.ensures, ← q) (stop_right s c.args.offset c.args.size c.if-section-gt-LIMIT.false (state_of end) h.state (λ z. number_not_0 c.in-Some.kind (sym q ∙ z)))
 
-pub bounds-section-at : goal.bounds-section-at
-bounds-section-at c =
-    let if1 = c.if-section-gt-LIMIT in
-    let cursor-at = c.cursor_at in
-    let read-sql-mapping = c.read_sql_mapping-c in
-    let bytes = c.type_inv.section in
-    omega (arith, tag_left c.args.section.now c.args.offset c.args.size if1.false _ cursor-at.ensures _ read-sql-mapping.ensures (λ i h. omega (arith, bytes i)) c.if-c-ne0.false)
+pub overflow_sub-len : goal.overflow_sub-len
+overflow_sub-len c =
+    let s = c.args.section.now in
+    let new = c.new-reader in
+    let end = c.sql_mapping.new.p in
+    let h = read_there s c.args.offset new.result c.seek.new.self end new.ensures.bytes new.ensures.state c.seek.ensures.lent c.seek.ensures.state c.sql_mapping.ensures in
+    as_begins s c.args.offset c.args.size c.if-section-gt-LIMIT.false (state_of end) h.state (λ i k. omega (arith, c.type_inv.section i)) (ap refusal_number c.in_default.is) (tag_there s c.args.offset end h c.seen.result c.seen.ensures 1 c.in-1.is)
 
-pub overflow_sub-c : goal.overflow_sub-c
-overflow_sub-c c =
-    let if1 = c.if-section-gt-LIMIT in
-    let cursor-at = c.cursor_at in
-    let read-sql-mapping = c.read_sql_mapping-c in
-    let bytes = c.type_inv.section in
-    as_begins c.args.section.now c.args.offset c.args.size if1.false _ cursor-at.ensures _ read-sql-mapping.ensures (λ i h. omega (arith, bytes i)) c.if-c-ne0.false (sym c.wide-tag.ensures.0 ∙ c.in-1.is)
+pub option_in-precision-requires : goal.option_in-precision-requires
+option_in-precision-requires c =
+    let s = c.args.section.now in
+    let new = c.new-reader in
+    let end = c.sql_mapping.new.p in
+    let h = read_there s c.args.offset new.result c.seek.new.self end new.ensures.bytes new.ensures.state c.seek.ensures.lent c.seek.ensures.state c.sql_mapping.ensures in
+    omega (arith, rows_left s c.args.offset c.args.size c.if-section-gt-LIMIT.false (state_of end) h.state)
+
+pub option_in-scale-requires : goal.option_in-scale-requires
+option_in-scale-requires c =
+    let s = c.args.section.now in
+    let new = c.new-reader in
+    let end = c.sql_mapping.new.p in
+    let h = read_there s c.args.offset new.result c.seek.new.self end new.ensures.bytes new.ensures.state c.seek.ensures.lent c.seek.ensures.state c.sql_mapping.ensures in
+    omega (arith, rows_left s c.args.offset c.args.size c.if-section-gt-LIMIT.false (state_of end) h.state)
 
 pub returns-in-1 : goal.returns-in-1
 returns-in-1 c =
-    let if2 = c.if-c-ne0 in
-    let if1 = c.if-section-gt-LIMIT in
-    let cursor-at = c.cursor_at in
-    let read-sql-mapping = c.read_sql_mapping-c in
-    let bytes = c.type_inv.section in
-    rw c.sized.ensures (as_right c.args.section.now c.args.offset c.args.size if1.false _ cursor-at.ensures _ read-sql-mapping.ensures (λ i h. omega (arith, bytes i)) if2.false (sym c.wide-tag.ensures.0 ∙ c.in-1.is))
+    let s = c.args.section.now in
+    let new = c.new-reader in
+    let end = c.sql_mapping.new.p in
+    let h = read_there s c.args.offset new.result c.seek.new.self end new.ensures.bytes new.ensures.state c.seek.ensures.lent c.seek.ensures.state c.sql_mapping.ensures in
+    let right = as_right s c.args.offset c.args.size c.if-section-gt-LIMIT.false (state_of end) h.state (λ i k. omega (arith, c.type_inv.section i)) (ap refusal_number c.in_default.is) (tag_there s c.args.offset end h c.seen.result c.seen.ensures 1 c.in-1.is) in
+    rw c.sized.ensures (record { value = right.0; room = right.1 })
 
 pub returns-in-3 : goal.returns-in-3
 returns-in-3 c =
-    let if1 = c.if-section-gt-LIMIT in
-    let cursor-at = c.cursor_at in
-    let read-sql-mapping = c.read_sql_mapping-c in
-    let if2 = c.if-c-ne0 in
-    let wide = c.wide-tag in
-    let bytes = c.type_inv.section in
-    rw c.sized-in-3.ensures (numeric_right c.args.section.now c.args.offset c.args.size if1.false _ cursor-at.ensures _ read-sql-mapping.ensures (λ i h. omega (arith, bytes i)) if2.false (sym wide.ensures.0 ∙ c.in-3.is) _ _ c.option_in-precision.ensures c.option_in-scale.ensures)
+    let s = c.args.section.now in
+    let new = c.new-reader in
+    let end = c.sql_mapping.new.p in
+    let h = read_there s c.args.offset new.result c.seek.new.self end new.ensures.bytes new.ensures.state c.seek.ensures.lent c.seek.ensures.state c.sql_mapping.ensures in
+    let right = numeric_right s c.args.offset c.args.size c.if-section-gt-LIMIT.false (state_of end) h.state (λ i k. omega (arith, c.type_inv.section i)) (ap refusal_number c.in_default.is) (tag_there s c.args.offset end h c.seen.result c.seen.ensures 3 c.in-3.is) _ _ c.option_in-precision.ensures c.option_in-scale.ensures in
+    rw c.sized-in-3.ensures (record { value = right.0; room = right.1 })
 
-pub returns-in_default : goal.returns-in_default
-returns-in_default c =
-    let if1 = c.if-section-gt-LIMIT in
-    let cursor-at = c.cursor_at in
-    let read-sql-mapping = c.read_sql_mapping-c in
-    let bytes = c.type_inv.section in
-    rw c.not_found-in_default.ensures
-    (other_right c.args.section.now c.args.offset c.args.size if1.false _ cursor-at.ensures _ read-sql-mapping.ensures (λ i h. omega (arith, bytes i)) c.if-c-ne0.false (λ x. omega arith) (λ x. omega arith))
+pub returns-in_default-seen-clause-value : goal.returns-in_default-seen-clause-value
+returns-in_default-seen-clause-value c =
+    let s = c.args.section.now in
+    let new = c.new-reader in
+    let end = c.sql_mapping.new.p in
+    let h = read_there s c.args.offset new.result c.seek.new.self end new.ensures.bytes new.ensures.state c.seek.ensures.lent c.seek.ensures.state c.sql_mapping.ensures in
+    let tag = tag_there s c.args.offset end h c.seen.result c.seen.ensures c.seen.result refl in
+    rw c.at-in_default-seen.ensures (other_right s c.args.offset c.args.size c.if-section-gt-LIMIT.false (state_of end) h.state (λ i k. omega (arith, c.type_inv.section i)) (ap refusal_number c.in_default.is) (λ x. omega arith) (λ x. omega arith))

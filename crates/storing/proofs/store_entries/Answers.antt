@@ -1,9 +1,10 @@
 -- The entries of the rows before index i are stored; whatever the others come to, all rows do.
 use Prim.Native.Nat.{◌+◌, ◌-◌}
 use native.Mathlib.Omega.{arith}
-use mathlib.Core.Path.{◌∙◌}
+use mathlib.Core.Path.{◌≡◌, ◌∙◌}
 use borrow.Author.Rules.{rules}
 use Rattle.layout.specs.Answers.{whole_rows}
+use Rattle.storing.specs.Private.{length_stored}
 use Rattle.storing.specs.Output.{spot_of}
 use Rattle.storing.proofs.Rows.{next_above}
 use Rattle.storing.proofs.Entries.{ends, full, goes, stores_entries}
@@ -29,10 +30,11 @@ loop-i-preserved c =
     let a = c.args in
     let x = c.loop-i in
     let payload = c.push_payload-i in
-    let put = c.put_number in (
+    let out = payload.new.self in
+    let put : c.put_number.new.dest ≡ length_stored x.out.at out.at out.dest.now = c.put_number.ensures in (
       payload.ensures.lent ∙ x.invariant.0,
       search (rules, payload.ensures.within.1),
-      λ q h. x.invariant.2 q (goes c.loop-i-test.true payload.ensures.stored (rw (← payload.ensures.end, ← put.ensures) h)),
+      λ q h. x.invariant.2 q (goes c.loop-i-test.true payload.ensures.stored (rw (← payload.ensures.end, ← put) h)),
     )
 
 pub returns : goal.returns

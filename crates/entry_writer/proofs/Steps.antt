@@ -7,10 +7,10 @@ use mathlib.Core.Path.{◌≡◌, refl, sym, ap, ◌∙◌}
 use lib.Dec.{leb}
 use lib.ListN.{length, take, drop, length-append, length-drop}
 use lib.Seq.{length-take-le}
-use borrow.Author.Tests.{leb-true, leb-false}
+use borrow.Author.Tests.{leb-true, leb-false, lt-leb, le-leb}
 use Rattle.layout.specs.Layout.{Sort, Kind, Tag, Flag, Number, Count, string}
 use Rattle.layout.specs.Written.{text_sort, four, plain_bytes, leaf_bytes, offset_at, value_at}
-use Rattle.layout.specs.Reading.{Outcome, ok, refuse, utf8}
+use Rattle.layout.specs.Reading.{Outcome, ok, refuse}
 use Rattle.layout.specs.Answers.{whole_rows}
 use Rattle.table.specs.declared.Row.{Row}
 use Rattle.table.specs.Table.{row_of}
@@ -18,7 +18,6 @@ use Rattle.table.proofs.Rows.{row_none, offset_there, value_there}
 use Rattle.writing.specs.Rows.{is_row, lent_at, stays_at}
 use Rattle.writing.specs.State.{WriteState, arrive_plain}
 use Rattle.writing.proofs.Spelled.{is_row_lem}
-use Rattle.text.specs.Walk as automaton
 use Rattle.entry_writer.specs.Private.{take_number}
 
 -- A number that is taken is a leaf of its sort
@@ -29,10 +28,6 @@ take_sort Flag (ok n next) w = refl
 take_sort Number (ok n next) w = refl
 take_sort Count (ok n next) w = refl
 take_sort srt (refuse n p) w = refl
-
--- A text within the lent bytes ends within them
-pub stays_within : (s : Bool) (end l : ℕ) → s ≡ leb end l → s ≡ true → end ≤ l
-stays_within s end l e h = leb-true end l (sym e ∙ h)
 
 -- A row of a given sort is one of the whole rows
 module _ (rows : List ℕ) (i sort : ℕ) {t : Bool} (e : t ≡ is_row rows i sort) (h : t ≡ true) where
@@ -45,26 +40,26 @@ module _ (rows : List ℕ) (i sort : ℕ) {t : Bool} (e : t ≡ is_row rows i so
   pub row_value : {row : Row} → row ≡ row_of rows i → row.value ≡ value_at rows i
   row_value g = value_there rows i row_inside g
 
--- A text row within the lent bytes
-module _ (rows text : List ℕ) (i : ℕ) {t : Bool} (e : t ≡ is_row rows i text_sort) (h : t ≡ true) {row : Row} (g : row ≡ row_of rows i) {s : Bool} (b : s ≡ leb (row.offset + row.value) (length text)) where
-  pub stays_there : s ≡ stays_at rows text i
-  stays_there = b ∙ rw (row_offset rows i text_sort e h g, row_value rows i text_sort e h g)
+-- A text row is beyond the lent bytes
+module _ (rows text : List ℕ) (i : ℕ) {t : Bool} (e : t ≡ is_row rows i text_sort) (h : t ≡ true) {row : Row} (g : row ≡ row_of rows i) where
+  pub text_beyond : length text < row.offset + row.value → stays_at rows text i ≡ false
+  text_beyond k = rw (← row_offset rows i text_sort e h g, ← row_value rows i text_sort e h g, lt-leb (row.offset + row.value) (length text) k)
 
-  pub text_length : s ≡ true → length (lent_at rows text i) ≡ row.value
-  text_length k =
-      let o = row_offset rows i text_sort e h g in
-      let n = row_value rows i text_sort e h g in
-      let l : row.offset + row.value ≤ length text = stays_within _ _ _ b k in
-      rw (← o, ← n) (length-take-le row.value (drop row.offset text) (omega (arith, length-drop row.offset text)))
+  -- Or within them
+  module _ (k : row.offset + row.value ≤ length text) where
+    pub text_within : stays_at rows text i ≡ true
+    text_within = rw (← row_offset rows i text_sort e h g, ← row_value rows i text_sort e h g, le-leb (row.offset + row.value) (length text) k)
 
-  pub text_size : s ≡ true → length (leaf_bytes (string (lent_at rows text i))) ≡ 4 + row.value
-  text_size k = let l = text_length k in length-append (four (length (lent_at rows text i))) (lent_at rows text i) ∙ omega arith
+    pub text_lent : {bytes : List ℕ} → bytes ≡ take (row.offset + row.value - row.offset) (drop row.offset text) → lent_at rows text i ≡ bytes
+    text_lent b =
+        let n : row.value ≡ row.offset + row.value - row.offset = omega arith in
+        rw (← row_offset rows i text_sort e h g, ← row_value rows i text_sort e h g, b) (ap (λ (j : ℕ). take j (drop row.offset text)) n)
 
-  pub good_there : {u : Bool} → u ≡ automaton.utf8 (take (row.offset + row.value - row.offset) (drop row.offset text)) → u ≡ utf8 (lent_at rows text i)
-  unfolding utf8
-  good_there f =
-      let x : row.offset + row.value - row.offset ≡ row.value = omega arith in
-      f ∙ rw (x, row_offset rows i text_sort e h g, row_value rows i text_sort e h g)
+    pub text_length : {bytes : List ℕ} → bytes ≡ take (row.offset + row.value - row.offset) (drop row.offset text) → length bytes ≡ row.value
+    text_length b = ap length b ∙ length-take-le _ (drop row.offset text) (omega (arith, length-drop row.offset text)) ∙ omega arith
+
+pub text_size : (bytes : List ℕ) → length (leaf_bytes (string bytes)) ≡ 4 + length bytes
+text_size bytes = length-append (four (length bytes)) bytes ∙ omega arith
 
 -- No table has a row at an index that no number of 64 bits gives
 pub row_beyond : (rows : List ℕ) (i : ℕ) → length rows < 18446744073709551616 → row_of rows (min i 18446744073709551615) ≡ row_of rows i

@@ -6,7 +6,7 @@ ghost use Rattle.std.specs.Prelude.{◌≡◌, ◌+◌, ◌^◌, ◌<◌, leb, l
 ghost use Rattle.length.specs.Length.{length_of};
 ghost use Rattle.writing.specs.Rows.{is_row};
 ghost use Rattle.writing.specs.Writing.{fitting};
-ghost use Rattle.writing.specs.State.{new_writer, stopped_writer, grown, past, length_taken, spoiled, unless_refused};
+ghost use Rattle.writing.specs.State.{new_writer, stopped_once, grown, past, length_taken, spoiled, unless_refused};
 ghost use Rattle.writing.specs.Run.{closing};
 ghost use Rattle.writing.proofs.Still.{run_refused, halt_refused};
 ghost use Rattle.writing.proofs.Result.{writer_judges};
@@ -48,10 +48,10 @@ impl<'a> EntryWriter<'a> {
         }
     }
 
-    // The writer is refused.
-    fn stop(&mut self)
+    // The writer is refused, unless it is refused already.
+    pub fn stop(&mut self)
         ensures lent { lent_of self.new ≡ lent_of self.old }
-        ensures state { state_of self.new ≡ stopped_writer (state_of self.old) }
+        ensures state { state_of self.new ≡ stopped_once (state_of self.old) }
     {
         self.refused = true;
     }
@@ -159,15 +159,13 @@ impl<'a> Pass for EntryWriter<'a> {
         }
         let row = table::row_at(self.rows, self.row);
         let start = row.offset as usize;
-        let size = row.value as usize;
-        if !stays(self.text, start, size) {
+        let Some(bytes) = self.text.get(start..start + row.value as usize) else {
+            return self.spoiled(); // beyond the lent bytes
+        };
+        if !text::is_utf8(bytes) {
             return self.spoiled();
         }
-        let end = start + size;
-        if !text::is_utf8(&self.text[start..end]) {
-            return self.spoiled();
-        }
-        self.past(row.value, 4 + size);
+        self.past(row.value, 4 + bytes.len());
     }
 
     fn place(&self) -> usize {
@@ -180,7 +178,7 @@ impl<'a> Pass for EntryWriter<'a> {
 
     // With 14, whatever it is refused for.
     fn refuse(&mut self, kind: RefusalKind, begin: usize) {
-        self.refused = true;
+        self.stop();
     }
 
     fn is_refused(&self) -> bool {
@@ -215,11 +213,4 @@ fn is_row(rows: &[u32], i: usize, sort: u32) -> bool
     ensures { result ≡ is_row rows.now i sort }
 {
     i < rows.len() / ROW_WIDTH && table::row_at(rows, i).sort == sort
-}
-
-// Whether a text is within the lent bytes.
-pub fn stays(text: &[u8], start: usize, size: usize) -> bool
-    ensures { result ≡ leb (start + size) (length text.now) }
-{
-    start <= text.len() && size <= text.len() - start
 }

@@ -18,7 +18,7 @@ use Rattle.section.specs.Derivation.{entity, ProperItems}
 use Rattle.section.specs.Demand3.{Good}
 use Rattle.writing.specs.Rows.{in_rows}
 use Rattle.writing.specs.State.{new_writer, stopped_once, length_taken}
-use Rattle.entry_writer.specs.declared.EntryWriter.{EntryWriter}
+use Rattle.writing.specs.State.{WriteState}
 use Rattle.table.specs.Answers.{Total, counted, uncounted}
 use Rattle.writing.specs.Run.{closing}
 use Rattle.writing.specs.Writing.{length_in, written}
@@ -42,7 +42,7 @@ entry_length v vs =
 
 module _ (rows text : List ℕ) where
   -- A writer after the first of several entities
-  reached_more : (v : Value Entity) (k : ℕ) (w : EntryWriter) (m : Outcome ℕ (List (Value Entity))) → Reached rows text (λ vs. k + 4 + length (bytes Entity v) + length (section_bytes vs)) w m
+  reached_more : (v : Value Entity) (k : ℕ) (w : WriteState) (m : Outcome ℕ (List (Value Entity))) → Reached rows text (λ vs. k + 4 + length (bytes Entity v) + length (section_bytes vs)) w m
       → Reached rows text (λ vs. k + length (section_bytes vs)) w (m >>= λ vs end. ok (v ∷ vs) end)
   reached_more v k w m (arrives {v = vs} {end = end} (s, r)) =
       let e : k + 4 + length (bytes Entity v) + length (section_bytes vs) ≡ k + length (section_bytes (v ∷ vs)) = omega (arith, entry_length v vs) in
@@ -50,16 +50,16 @@ module _ (rows text : List ℕ) where
   reached_more v k w m (halts h) = halts h
 
   -- The first pass takes the entities that are read from the rows, or is refused
-  reached : (n : ℕ) (w : EntryWriter) (k : ℕ) → Stands rows text w k → Reached rows text (λ vs. k + length (section_bytes vs)) (consume_entities rows text n w) (entities_in rows text n w.row)
+  reached : (n : ℕ) (w : WriteState) (k : ℕ) → Stands rows text w k → Reached rows text (λ vs. k + length (section_bytes vs)) (consume_entities rows text n w) (entities_in rows text n w.row)
   unfolding consume_entities entities_in
   reached zero w k s = let e : (stopped_once w).refusal ≡ 14 = rw (eq-eqb w.refusal 0 s.going) in halts e
   reached (suc n) w k s = go (walk (in_rows rows text) Entity w.row) (consumed rows text Entity (length_taken w) (k + 4) (stands_length rows text w k s)) (reached n)
     where
-      next : EntryWriter
+      next : WriteState
       next = consume_entry rows text w
 
       more : (v : Value Entity) → Stands rows text next (k + 4 + length (bytes Entity v)) → (b : Bool)
-          → ((w : EntryWriter) (k : ℕ) → Stands rows text w k → Reached rows text (λ vs. k + length (section_bytes vs)) (consume_entities rows text n w) (entities_in rows text n w.row))
+          → ((w : WriteState) (k : ℕ) → Stands rows text w k → Reached rows text (λ vs. k + length (section_bytes vs)) (consume_entities rows text n w) (entities_in rows text n w.row))
           → Reached rows text (λ vs. k + length (section_bytes vs)) (cond b next (consume_entities rows text n next))
           (cond b (ok (v ∷ []) next.row) (entities_in rows text n next.row >>= λ vs end. ok (v ∷ vs) end))
       more v s true f =
@@ -68,7 +68,7 @@ module _ (rows text : List ℕ) where
       more v s false f = reached_more v k (consume_entities rows text n next) (entities_in rows text n next.row) (f next (k + 4 + length (bytes Entity v)) s)
 
       go : (m : Outcome ℕ (Value Entity)) → Reached rows text (λ v. k + 4 + length (bytes Entity v)) next m
-          → ((w : EntryWriter) (k : ℕ) → Stands rows text w k → Reached rows text (λ vs. k + length (section_bytes vs)) (consume_entities rows text n w) (entities_in rows text n w.row))
+          → ((w : WriteState) (k : ℕ) → Stands rows text w k → Reached rows text (λ vs. k + length (section_bytes vs)) (consume_entities rows text n w) (entities_in rows text n w.row))
           → Reached rows text (λ vs. k + length (section_bytes vs))
           (cond (eqb next.refusal 0) (cond (leb (whole_rows rows) next.row) next (consume_entities rows text n next)) next)
           (m >>= λ v end. cond (leb (whole_rows rows) end) (ok (v ∷ []) end) (entities_in rows text n end >>= λ vs last. ok (v ∷ vs) last))
@@ -123,7 +123,7 @@ section_stored rows text dest after s (v ∷ vs) w h =
     ∙ ap (λ (b : List ℕ). b ++ drop (length b) dest) e
 
 -- The first pass gives the length
-pub first_pass : (rows text : List ℕ) (w r : EntryWriter) (l : Total) → w ≡ new_writer → r ≡ consume_entities rows text (whole_rows rows) w → l ≡ closing rows r
+pub first_pass : (rows text : List ℕ) (w r : WriteState) (l : Total) → w ≡ new_writer → r ≡ consume_entities rows text (whole_rows rows) w → l ≡ closing rows r
     → (l ≡ length_in (measured_section rows text)) × ExactLength section rows text l
 unfolding measured_section spelled_entities
 first_pass rows text w r l a b e =

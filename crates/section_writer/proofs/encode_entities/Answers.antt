@@ -1,19 +1,18 @@
 -- A refusal, or the second pass stores the bytes.
-use mathlib.Core.Path.{ap}
-use Rattle.length.specs.Length.{length_of}
+use mathlib.Core.Path.{refl}
+use Rattle.std.proofs.lemmas.Result.{err_from_is_err_and}
 use Rattle.section_writer.proofs.Passes.{refused_whole, second_pass}
 use Rattle.section_writer.proofs.encode_entities.Goals as goal
 
-pub returns-in_default : goal.returns-in_default
-returns-in_default c =
+pub returns-in_err-length : goal.returns-in_err-length
+returns-in_err-length c =
     let a = c.args in
-    let told = refused_whole a.rows.now a.text.now a.dest.now _ _ c.entities_len.ensures.result_value c.fitting-length.ensures _ _ (ap length_of c.in_default.is) in
-    record { result_value = told.0; dest_after = told.1.0; exact_writing = told.1.1 }
+    let e = err_from_is_err_and c.from_residual.result c.from_residual.ensures.1 in
+    let told = refused_whole a.rows.now a.text.now a.dest.now _ _ c.entities_len.ensures.result_value c.in_err-length.ensures _ _ refl in
+    rw (e.1, e.2) (record { result_value = told.0; dest_after = told.1.0; exact_writing = told.1.1 })
 
 pub returns : goal.returns
 returns c =
-    let entities-len = c.entities_len in
-    let fitting = c.fitting-length in
     let a = c.args in
-    let told = second_pass a.rows.now a.text.now a.dest.now _ _ entities-len.ensures.result_value fitting.ensures _ (ap length_of c.in-Counted.is) _ c.store_entries.ensures in
+    let told = second_pass a.rows.now a.text.now a.dest.now _ _ c.entities_len.ensures.result_value c.in_ok-length.ensures _ refl _ c.store_entries.ensures in
     record { result_value = told.0; dest_after = told.1.0; exact_writing = told.1.1 }

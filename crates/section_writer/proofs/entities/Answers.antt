@@ -1,51 +1,36 @@
--- The entities so far are taken; the others are still to come.
+-- The writer is refused, the rows end, or others follow.
 use native.Mathlib.Omega.{arith}
-use mathlib.Core.Path.{refl, sym, ap, ◌∙◌}
-use Rattle.layout.specs.Entities.{Entity}
-use Rattle.writing.specs.Run.{consume}
-use Rattle.section_writer.proofs.Loop.{entities_refused, entities_last, entities_more, entities_none}
+use Rattle.std.proofs.lemmas.Bool.{iff_false}
+use Rattle.section_writer.proofs.Loop.{Taken, none_taken, refused_there, last_there, one_more, none_left}
 use Rattle.section_writer.proofs.entities.Goals as goal
+use Rattle.section_writer.proofs.entities.Goals.{then-is_refused-via-then-is_refused, then-is_refused-via-else-is_refused+then-rows-place}
 
-pub loop-left-init : goal.loop-left-init
-loop-left-init c = refl
+pub loop-init : goal.loop-init
+loop-init c = none_taken
 
-pub returns-then-w-ne0 : goal.returns-then-w-ne0
-returns-then-w-ne0 c =
-    let a = c.args in
-    let x = c.loop-left in
-    let length = c.entry_length in
-    let entity = c.entity-w in
-    let e = entity.ensures ∙ ap (consume Entity a.rows.now a.text.now) length.ensures in
-    entities_refused a.rows.now a.text.now x.left x.w c.loop-left-test.true entity.result e c.if-w-ne0.true ∙ sym x.invariant
+taken : (c : goal.Joined-then-is_refused) → Taken c.args.rows c.args.w.now c.entity.new.p
+taken c =
+    elim c.then-is_refused.branch [
+      | then-is_refused-via-then-is_refused w ↦
+          refused_there c.loop.invariant c.loop-test.true c.entry_length.ensures.lent c.entry_length.ensures.state c.entity.ensures (c.is_refused.ensures.0 w.if-is_refused.true)
+      | then-is_refused-via-else-is_refused+then-rows-place w ↦
+          last_there c.loop.invariant c.loop-test.true c.entry_length.ensures.lent c.entry_length.ensures.state c.entity.ensures c.requires (iff_false c.is_refused.ensures w.if-is_refused.false)
+          (omega (arith, w.place.ensures, w.if-rows-place.true))
+    ]
 
-pub returns-then-rows-w : goal.returns-then-rows-w
-returns-then-rows-w c =
-    let a = c.args in
-    let x = c.loop-left in
-    let test = c.loop-left-test in
-    let length = c.entry_length in
-    let entity = c.entity-w in
-    let e = entity.ensures ∙ ap (consume Entity a.rows.now a.text.now) length.ensures in
-    entities_last a.rows.now a.text.now x.left x.w test.true entity.result e c.if-w-ne0.false c.if-rows-w.true ∙ sym x.invariant
+pub returns-then-is_refused-clause-lent : goal.returns-then-is_refused-clause-lent
+returns-then-is_refused-clause-lent c = (taken c).lent
 
-pub overflow_sub-left : goal.overflow_sub-left
-overflow_sub-left c = let test = c.loop-left-test in omega (arith, test.true)
+pub returns-then-is_refused-clause-state : goal.returns-then-is_refused-clause-state
+returns-then-is_refused-clause-state c = (taken c).state
 
-pub loop-left-smaller : goal.loop-left-smaller
-loop-left-smaller c = let test = c.loop-left-test in omega (arith, test.true)
+pub loop-preserved : goal.loop-preserved
+loop-preserved c =
+    one_more c.loop.invariant c.loop-test.true c.entry_length.ensures.lent c.entry_length.ensures.state c.entity.ensures c.requires (iff_false c.is_refused.ensures c.if-is_refused.false)
+    (omega (arith, c.place.ensures, c.if-rows-place.false))
 
-pub loop-left-preserved : goal.loop-left-preserved
-loop-left-preserved c =
-    let a = c.args in
-    let x = c.loop-left in
-    let test = c.loop-left-test in
-    let length = c.entry_length in
-    let entity = c.entity-w in
-    let e = entity.ensures ∙ ap (consume Entity a.rows.now a.text.now) length.ensures in
-    x.invariant ∙ entities_more a.rows.now a.text.now x.left x.w test.true entity.result e c.if-w-ne0.false (omega (arith, c.if-rows-w.false))
+pub returns-clause-lent : goal.returns-clause-lent
+returns-clause-lent c = (none_left {u = c.stop.new.self} c.loop.invariant c.loop-test.false c.stop.ensures.lent c.stop.ensures.state).lent
 
-pub returns : goal.returns
-returns c =
-    let a = c.args in
-    let x = c.loop-left in
-    c.refused.ensures ∙ entities_none a.rows.now a.text.now x.left x.w (omega (arith, c.loop-left-test.false)) ∙ sym x.invariant
+pub returns-clause-state : goal.returns-clause-state
+returns-clause-state c = (none_left {u = c.stop.new.self} c.loop.invariant c.loop-test.false c.stop.ensures.lent c.stop.ensures.state).state

@@ -1,11 +1,6 @@
--- The entities so far are taken; the others are still to come.
-use mathlib.Core.Path.{◌≡◌}
-use Rattle.layout.specs.Answers.{whole_rows}
-use Rattle.section_writer.specs.Private.{consume_entities}
+-- Some entities are taken; the others are still to come.
+use Rattle.section_writer.proofs.Loop.{Remains}
 use Rattle.section_writer.proofs.entities.Given as goal
 
-abbrev pub invariant-loop-left : goal.invariant-loop-left
-invariant-loop-left l = consume_entities l.rows l.text (whole_rows l.rows) l.initial.w ≡ consume_entities l.rows l.text l.left l.w
-
-abbrev pub decreases-loop-left : goal.decreases-loop-left
-decreases-loop-left l = l.left
+abbrev pub invariant-loop : goal.invariant-loop
+invariant-loop l = Remains l.rows l.counter l.initial.w l.w

@@ -10,13 +10,13 @@ returns-then-self-clause-state c = rw c.if-self.true
 
 pub returns-then-not-is_row-clause-state : goal.returns-then-not-is_row-clause-state
 unfolding unless_refused
-returns-then-not-is_row-clause-state c = rw (c.if-self.false, ← c.is_row.ensures, c.if-not-is_row.true) c.stop.ensures.state
+returns-then-not-is_row-clause-state c = rw (c.if-self.false, ← c.is_row.ensures, c.if-not-is_row.true) (rw c.if-self.false at c.stop.ensures.state)
 
 pub returns-then-bound-row-clause-state : goal.returns-then-bound-row-clause-state
 unfolding unless_refused
 returns-then-bound-row-clause-state c =
     let v = row_value _ _ _ c.is_row.ensures c.if-not-is_row.false c.row_at-row.ensures in
-    rw (c.if-self.false, ← c.is_row.ensures, c.if-not-is_row.false, ← v, le-ltb _ c.args.bound c.if-bound-row.true) c.stop-then-bound-row.ensures.state
+    rw (c.if-self.false, ← c.is_row.ensures, c.if-not-is_row.false, ← v, le-ltb _ c.args.bound c.if-bound-row.true) (rw c.if-self.false at c.stop-then-bound-row.ensures.state)
 
 pub returns-clause-state : goal.returns-clause-state
 unfolding unless_refused

@@ -1,18 +1,23 @@
 -- Refused otherwise than by 13, or passed.
 use native.Mathlib.Omega.{arith}
-use mathlib.Core.Bool.{true, false}
+use mathlib.Core.Bool.{Bool, true, false, not}
 use mathlib.Core.List.{[]}
 use mathlib.Core.Path.{◌≡◌, refl}
-use Rattle.std.proofs.lemmas.Grind.{common_steps}
-use Rattle.table.specs.declared.RefusalKind.TheVariants.{TableTooSmall}
+use borrow.Author.Rules.{rules}
+use denote.Enum.Bare.{same_true}
+use Rattle.table.specs.contracts.RefusalKind.{the_type}
 use Rattle.paths.proofs.Report.{Passes, passed, report_passed, report_stopped}
 use Rattle.paths.proofs.Exact.{meets_both}
 use Rattle.paths.proofs.path_repeats.Goals as goal
 use Rattle.paths.proofs.path_repeats.Goals.{In_default, in_default-via-in-Err+else-ne, in_default-via-in_default}
 
+not_not : (b : Bool) → false ≡ not b → b ≡ true
+not_not true e = refl
+not_not false e = e
+
 passes : (c : In_default) → Passes c.decode_entities.result
 passes c = elim c.in_default.branch [
-  | in_default-via-in-Err+else-ne w ↦ rw w.in-Err.is (let k : w.in-Err.refusal.kind ≡ TableTooSmall = grind (arith, common_steps) in k)
+  | in_default-via-in-Err+else-ne w ↦ rw w.in-Err.is (same_true the_type (search rules) _ _ (not_not _ w.if-ne.ensures))
   | in_default-via-in_default w ↦ rw w.in_default.is tt
 ]
 

@@ -9,7 +9,7 @@ use Rattle.layout.specs.Theorems.{Bytes}
 use Rattle.layout.specs.ReadAlone.{reading_alone}
 use Rattle.layout.specs.Alone.{ExactAlone}
 use Rattle.pass.specs.Pass.{Runs}
-use Rattle.reading.specs.State.{ReadState, read_state, new_cursor}
+use Rattle.reading.specs.State.{read_state, new_cursor}
 use Rattle.reading.specs.Run.{reader, run}
 use Rattle.reading.specs.Answered.{answered_alone}
 use Rattle.reading.proofs.Answered as reading

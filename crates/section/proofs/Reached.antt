@@ -10,7 +10,7 @@ use Rattle.framing.specs.Places.{entry_end}
 use Rattle.leaf.specs.declared.Reader.{Reader}
 use Rattle.leaf.specs.Reader.{lent_of}
 use Rattle.section.specs.Entry.{staged, past_entry}
-use Rattle.section.proofs.Entries.{Come, Leads, entry_fits, few_entities, leads}
+use Rattle.section.proofs.Entries.{Come, Leads, entry_fits, leads}
 
 -- From where the reader was p, the walk has reached a boundary, where the entry ends at `end`
 pub record Reached (p : Reader) (at end : ℕ) (q : Reader) (entities : ℕ) : Type 0 where

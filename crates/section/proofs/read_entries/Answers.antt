@@ -1,8 +1,6 @@
 -- From entry to entry, up to a refusal or to where there is no whole entry.
-use Prim.Native.Nat.{◌-◌}
 use native.Mathlib.Omega.{arith}
 use mathlib.Core.Path.{refl, sym, ap, ◌∙◌}
-use lib.ListN.{length}
 use Rattle.reading.specs.State.{ReadState}
 use Rattle.leaf.proofs.Leaves.{some_number, none_number}
 use Rattle.section.specs.Entry.{stage, staged}

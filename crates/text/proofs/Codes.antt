@@ -14,17 +14,17 @@ use Rattle.text.specs.States.{state_of}
 abbrev pub numbered : ℕ → State
 numbered n = get_or (start ∷ tail_1 ∷ tail_2 ∷ tail_3 ∷ after_e0 ∷ after_ed ∷ after_f0 ∷ after_f4 ∷ failed ∷ []) n failed
 
--- A code is six times the state's number, fits in six bits, and is 0 only for start
-codes : (q : State) → (numbered (code q / 6) ≡ q) × (ltb (code q / 6) 9 ≡ true) × (code q % 64 ≡ code q) × (eqb (code q) 0 ≡ accepting q)
-codes start = (refl, refl, refl, refl)
-codes tail_1 = (refl, refl, refl, refl)
-codes tail_2 = (refl, refl, refl, refl)
-codes tail_3 = (refl, refl, refl, refl)
-codes after_e0 = (refl, refl, refl, refl)
-codes after_ed = (refl, refl, refl, refl)
-codes after_f0 = (refl, refl, refl, refl)
-codes after_f4 = (refl, refl, refl, refl)
-codes failed = (refl, refl, refl, refl)
+-- A code is six times the state's number, and is 0 only for start
+codes : (q : State) → (numbered (code q / 6) ≡ q) × (ltb (code q / 6) 9 ≡ true) × (eqb (code q) 0 ≡ accepting q)
+codes start = (refl, refl, refl)
+codes tail_1 = (refl, refl, refl)
+codes tail_2 = (refl, refl, refl)
+codes tail_3 = (refl, refl, refl)
+codes after_e0 = (refl, refl, refl)
+codes after_ed = (refl, refl, refl)
+codes after_f0 = (refl, refl, refl)
+codes after_f4 = (refl, refl, refl)
+codes failed = (refl, refl, refl)
 
 pub numbered_code : (q : State) → numbered (code q / 6) ≡ q
 numbered_code q = (codes q).0
@@ -32,11 +32,8 @@ numbered_code q = (codes q).0
 pub number_low : (q : State) → code q / 6 < 9
 number_low q = ltb-true (code q / 6) 9 (codes q).1
 
-pub code_low : (q : State) → code q % 64 ≡ code q
-code_low q = (codes q).2
-
 pub code_accepting : (q : State) → eqb (code q) 0 ≡ accepting q
-code_accepting q = (codes q).3
+code_accepting q = (codes q).2
 
 pub code_injective : (p q : State) → code p ≡ code q → p ≡ q
 code_injective p q e = sym (numbered_code p) ∙ ap (λ (n : ℕ). numbered (n / 6)) e ∙ numbered_code q

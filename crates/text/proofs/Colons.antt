@@ -75,8 +75,3 @@ first_closes s h q = one_more_lem s true 0 h ∙ second (unwalked true) (get_or 
 pub first_other : (s : List ℕ) → 0 < length s → (get_or s 0 0 ≡ 0x3A → ⊥) → colons_after (unwalked true) s ≡ colons_after (unwalked false) s
 first_other [] h n = absurd (omega arith)
 first_other (x ∷ l) h n = ap (λ (p : Colons). colons_after p l) (other (unwalked true) x n ∙ sym (other (unwalked false) x n))
-
--- No bytes
-pub no_bytes : (s : List ℕ) → length s ≡ 0 → s ≡ []
-no_bytes [] e = refl
-no_bytes (x ∷ l) e = absurd (omega arith)

@@ -57,7 +57,3 @@ or_r x y = omega (arith, or_add_and x y, and_le_l x y)
 -- If the bitwise or is 0, so are both numbers
 pub or_none : (x y : ℕ) → bit_or x y ≡ 0 → (x ≡ 0) × (y ≡ 0)
 or_none x y e = (omega (arith, e, or_l x y), omega (arith, e, or_r x y))
-
--- Two parts that meet or overlap, from the bits of both
-pub ascii_ends : (s : List ℕ) (a m b e x y : ℕ) → b ≤ m → (x ≡ 0 → Ascii s a m) → (y ≡ 0 → Ascii s b e) → bit_or x y ≡ 0 → Ascii s a e
-ascii_ends s a m b e x y h f g o = let (p, q) = or_none x y o in ascii_join s a m b e h (f p) (g q)

@@ -14,13 +14,6 @@ ascii-two s a i f h =
     let r = or_r (get_or s i 0) (get_or s (i + 1) 0) in
     rw two (ascii_more s a (i + 1) (ascii_more s a i f (omega (arith, h, l))) (omega (arith, h, r)))
 
-pub loop-i-init : goal.loop-i-init
-loop-i-init c = (search rules, search rules, search rules, λ k l u. absurd (omega arith), λ o z. z)
-
-pub returns-then-s-i-ge128 : goal.returns-then-s-i-ge128
-returns-then-s-i-ge128 c = let inv = c.loop-i.invariant in
-    record { a_le_at = search rules; ascii = inv.3; stays_closed = inv.4 }
-
 pub loop-i-preserved-then-s-j-ne58 : goal.loop-i-preserved-then-s-j-ne58
 loop-i-preserved-then-s-j-ne58 c =
     let s = c.args.s.now in
@@ -40,7 +33,3 @@ loop-i-preserved c =
     let s = c.args.s.now in
     let loop = c.loop-i in
     (search rules, search rules, search rules, ascii_more s _ loop.i loop.invariant.3 (omega (arith, or_l (get_or s loop.i 0) (get_or s (loop.i + 1) 0), c.if-s-i-ge128.false)), λ o z. closed_other s o loop.i loop.end (loop.invariant.4 o z) (search rules) c.if-s-i-eq58.false)
-
-pub returns : goal.returns
-returns c = let inv = c.loop-i.invariant in
-    record { a_le_at = search rules; ascii = inv.3; stays_closed = inv.4 }

@@ -3,12 +3,6 @@ use Rattle.std.proofs.Common.{◌≡◌, ◌+◌, ◌-◌, ◌*◌, length, arit
 use Rattle.text.proofs.Blocks.{ascii_join, ascii_part}
 use Rattle.text.proofs.ascii_prefix.Goals as goal
 
-pub loop-k-init : goal.loop-k-init
-loop-k-init c = λ k l u. absurd (omega arith)
-
-pub returns-then-not-is_ascii : goal.returns-then-not-is_ascii
-returns-then-not-is_ascii c = (omega arith, c.loop-k.invariant)
-
 pub loop-k-preserved : goal.loop-k-preserved
 loop-k-preserved c =
     let s = c.args.s.now in
@@ -26,6 +20,3 @@ returns-then-is_ascii c =
     let last = rw m at (c.is_ascii-2.ensures c.if-is_ascii.true) in
     let e : n - 64 + 64 ≡ n = omega arith in
     (omega arith, ascii_join s 0 (c.loop-k.k * 64) (n - 64) n (omega arith) c.loop-k.invariant (rw e at (ascii_part s (n - 64) 64 last (omega arith))))
-
-pub returns : goal.returns
-returns c = (omega arith, λ k l u. c.loop-k.invariant k l (omega arith))

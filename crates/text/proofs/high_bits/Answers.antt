@@ -18,9 +18,6 @@ word_on s k r fits h e z f =
     let part = ascii_part s (k * 4) 4 (λ i l u. (four_bytes w at).ascii (rw e at z) i l (omega (arith, length-take-le 4 (drop (k * 4) s) (omega (arith, length-drop (k * 4) s))))) (omega arith) in
     rw n (ascii_join s 0 (k * 4) (k * 4) (k * 4 + 4) (omega arith) f part)
 
-pub loop-word-init : goal.loop-word-init
-loop-word-init c = λ e k l u. absurd (omega arith)
-
 pub loop-word-preserved : goal.loop-word-preserved
 loop-word-preserved c =
     let s = c.args.s.now in
@@ -29,7 +26,3 @@ loop-word-preserved c =
     let within : k < length s / 4 = omega (arith, chunks.front_len) in
     let word : get_or c.as_chunks.result.0.now k [] ≡ take 4 (drop (k * 4) s) = rw chunks.front (chunk_at 4 (length s / 4) s k [] within) in
     λ e. let (p, q) = or_none _ _ e in word_on s k _ (λ i. (c.type_inv.s i).fits) within (rw word at c.from_le_bytes.ensures) q (c.loop-word.invariant p)
-
-pub returns : goal.returns
-returns c =
-    λ e k l u. c.loop-word.invariant e k l (omega (arith, c.as_chunks.ensures.front_len))

@@ -1,22 +1,17 @@
 -- A pair that is open is closed by the first byte, or it makes no difference that it is open.
-use Rattle.std.proofs.Common.{◌≡◌, ℕ, true, false, length, sym, refl, ap, ◌∙◌, eqb-true, rules}
+use Rattle.std.proofs.Common.{◌≡◌, ℕ, true, false, length, sym, refl, ap, ◌∙◌, rules}
 use Rattle.text.specs.declared.ColonWalk.{ColonWalk}
 use Rattle.text.specs.Walk.{step}
 use Rattle.text.specs.States.{state_of}
 use Rattle.text.specs.Colons.{Colons, colons_after, unwalked}
 use Rattle.text.proofs.Codes.{run_snoc}
-use Rattle.text.proofs.Colons.{first_closes, first_other, no_bytes}
+use Rattle.text.proofs.Colons.{first_closes, first_other}
 use Rattle.text.proofs.walk_colons.Goals as goal
 use Rattle.text.proofs.walk_colons.Goals.{else-opened-via-then-opened+else-s-eq58, else-opened-via-else-opened}
 
 -- Two of the promises, from what is known of the pairs
 told : (p : Colons) (r : ColonWalk) (n : ℕ) → p ≡ record { opened = r.opened; end = r.end; seen = n } → (r.opened ≡ p.opened) × (r.end ≡ p.end)
 told p r n e = (sym (ap (λ (x : Colons). x.opened) e), sym (ap (λ (x : Colons). x.end) e))
-
-pub returns-then-is_empty : goal.returns-then-is_empty
-returns-then-is_empty c =
-    let e = no_bytes c.args.s.now (eqb-true _ _ (sym c.if-is_empty.ensures)) in
-    record { state_value = rw e; opened_value = rw e; end_value = rw e }
 
 pub returns-then-s-eq58 : goal.returns-then-s-eq58
 returns-then-s-eq58 c =

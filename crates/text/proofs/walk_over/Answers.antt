@@ -15,9 +15,6 @@ block_on s k blocks b h f g =
     let n : (k + 1) * 64 ≡ k * 64 + 64 = omega arith in
     rw (n, take-add (k * 64) 64 s) (onward (take (k * 64) s) (take 64 (drop (k * 64) s)) f (rw (b, chunk_at 64 (length s / 64) s k [] h) at g))
 
-pub loop-block-init : goal.loop-block-init
-loop-block-init c = λ p e. e
-
 pub loop-block-preserved : goal.loop-block-preserved
 loop-block-preserved c =
     let s = c.args.s.now in

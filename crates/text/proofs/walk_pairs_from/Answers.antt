@@ -1,15 +1,10 @@
 -- The low six bits of x are the code of the state after the first i bytes, and no pair is open there.
-use Rattle.std.proofs.Common.{ℕ, ◌+◌, ◌%◌, take, ap, ◌∙◌, rules, eq-eqb}
+use Rattle.std.proofs.Common.{◌+◌, ap, ◌∙◌, rules, eq-eqb}
 use Rattle.text.specs.Private.{code}
 use Rattle.text.specs.Walk.{wanted_after}
-use Rattle.text.proofs.Codes.{code_low, walked, ended}
-use Rattle.text.proofs.Colons.{closed_other, closed_pair, closed_two, closed_end, last_byte}
+use Rattle.text.proofs.Codes.{walked, ended}
+use Rattle.text.proofs.Colons.{closed_other, closed_pair, closed_two, last_byte}
 use Rattle.text.proofs.walk_pairs_from.Goals as goal
-
-pub loop-i-init : goal.loop-i-init
-loop-i-init c =
-    let args = c.args in
-    (search rules, search rules, λ p e. ap (λ (n : ℕ). n % 64) e ∙ code_low (wanted_after p (take args.p.at args.s.now)), λ o z. z)
 
 pub returns-then-i-n : goal.returns-then-i-n
 returns-then-i-n c =
@@ -41,12 +36,3 @@ loop-i-preserved c =
     let s = c.args.s.now in
     let loop = c.loop-i in
     (search rules, search rules, λ p e. walked p s loop.i loop.x _ (search rules) c.next_of-x.ensures (loop.invariant.2 p e), λ o z. closed_other s o loop.i loop.end (loop.invariant.3 o z) (search rules) c.if-c-eq58.false)
-
-pub returns : goal.returns
-returns c =
-    let s = c.args.s.now in
-    let loop = c.loop-i in
-    record {
-      states = λ p e. c.state_of-2.ensures (wanted_after p s) (ended p s loop.i loop.x (search rules) (loop.invariant.2 p (c.from-x.ensures ∙ ap code e)));
-      colons = λ o z. closed_end s o loop.i loop.end (loop.invariant.3 o z) (search rules);
-    }

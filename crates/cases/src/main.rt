@@ -36,20 +36,17 @@
 // and the tally of the sections accepted and refused.
 #![tactic(auto)]
 
-ghost use Rattle.std.specs.Prelude.{◌≡◌, ◌≤◌, length};
+ghost use Rattle.std.specs.Prelude.{◌≤◌, ◌<◌, length, IfSome};
 
-use directory::Holder;
+use fixed_text::FixedText;
 use layout::ROW_WIDTH;
-use length::Length;
-use parts::{NameStart, NameWalk};
-use paths::PathReport;
-use place::PartPlace;
+use parts::NameWalk;
 use std::io;
 use std::io::Read;
 use streams::read_full;
-use table::{Answer, Refusal, Row};
+use table::{Counts, Refusal, Row};
 use tally::{Tallied, Tally};
-use text::{State, TextCheck};
+use text::State;
 
 // More cases than a run takes.
 const TOO_MANY: usize = 1000000;
@@ -68,8 +65,6 @@ const NUMBERS: u64 = 4294967296;
 // What each number that is lent is before the call.
 const FILL: u32 = 4294967295;
 
-const FILL_PLACE: usize = 4294967295;
-
 // The most bytes of a buffer that is lent to be filled, and what each is before the call.
 const MOST_BUFFER: usize = 1024;
 
@@ -87,22 +82,22 @@ const LENGTH_DIGITS: usize = 5;
 // The largest number of a case.
 const LARGEST: u64 = 4294967295;
 
-// More bytes than a case has: the answer where the input ends, and where it cannot be parsed.
-const END: usize = 1000000;
+// The text of an answer. One that is too long is cut where the space ends, and is longer than any case then.
+type Out = FixedText<OUT_SIZE>;
 
-const BAD: usize = 1000001;
-
-fn main(rt: HostRuntime) -> io::Result<()> {
-    let mut line = large_buffer();
-    let mut space = large_buffer();
-    let counts = run_all(&rt, &mut rt.stdin(), &mut line, &mut space)?;
-    counts.print(&rt)
+// What stands where the next case should.
+#[derive(Clone, Copy, PartialEq, Eq)]
+enum Next {
+    Case { len: usize },
+    End,
+    Bad,
 }
 
-fn large_buffer() -> [u8; OUT_SIZE]
-    ensures { 65536 ≡ length result }
-{
-    [0; OUT_SIZE]
+fn main(rt: HostRuntime) -> io::Result<()> {
+    let mut line = [0; OUT_SIZE];
+    let mut space = [0; OUT_SIZE];
+    let tallies = run_all(&rt, &mut rt.stdin(), &mut line, &mut space)?;
+    tallies.print(&rt)
 }
 
 // Reads one case after the other into line and runs it, with its bytes in space.
@@ -111,75 +106,68 @@ fn run_all(
     input: &mut impl Read,
     line: &mut [u8],
     space: &mut [u8],
-) -> io::Result<Counts> {
-    let mut counts = Counts::new();
-    let mut number = 0;
-    while number < TOO_MANY {
-        let n = read_case(input, line)?;
-        if line.len() < n {
-            return end_at(rt, n, counts);
+) -> io::Result<Tallies> {
+    let mut tallies = Tallies::new();
+    for number in 0..TOO_MANY {
+        match read_case(input, line)? {
+            Next::Case { len } if len <= line.len() => {
+                tallies = run(rt, &line[..len], number, space, tallies)?;
+            }
+            Next::End => return Ok(tallies),
+            _ => return bad_input(rt, tallies),
         }
-        counts = run(rt, &line[..n], number, space, counts)?;
-        number += 1;
     }
-    bad_input(rt, counts)
-}
-
-// The counts after what is no case: nothing, or what ends the run.
-fn end_at(rt: &impl Print, n: usize, counts: Counts) -> io::Result<Counts> {
-    if n == END {
-        return Ok(counts);
-    }
-    bad_input(rt, counts)
+    bad_input(rt, tallies)
 }
 
 // What cannot be read as a case is a difference, and ends the run.
-fn bad_input(rt: &impl Print, counts: Counts) -> io::Result<Counts> {
+fn bad_input(rt: &impl Print, tallies: Tallies) -> io::Result<Tallies> {
     println!(rt; "bad input")?;
-    Ok(counts.differed())
+    Ok(tallies.differed())
 }
 
 // How many cases were run, how many differ, how many bytes the last one has, and the tally of the sections.
-#[derive(Drop)]
-struct Counts {
+#[derive(Clone, Copy)]
+struct Tallies {
     cases: usize,
     differ: usize,
     bytes: usize,
-    tally: Tally,
+    sections: Tally,
 }
 
-impl Counts {
-    fn new() -> Counts {
-        Counts {
+impl Tallies {
+    fn new() -> Tallies {
+        Tallies {
             cases: 0,
             differ: 0,
             bytes: 0,
-            tally: Tally::new(),
+            sections: Tally::new(),
         }
     }
 
     // With one case more, which has that many bytes, and the tally after it.
-    fn ran(self, bytes: usize, tally: Tally) -> Counts {
-        Counts {
+    fn ran(self, bytes: usize, sections: Tally) -> Tallies {
+        Tallies {
             cases: more(self.cases),
-            differ: self.differ,
             bytes,
-            tally,
+            sections,
+            ..self
         }
     }
 
     // With one difference more.
-    fn differed(mut self) -> Counts {
-        self.differ = more(self.differ);
-        self
+    fn differed(self) -> Tallies {
+        Tallies {
+            differ: more(self.differ),
+            ..self
+        }
     }
 
     fn print(self, rt: &impl Print) -> io::Result<()> {
-        let tally = self.tally;
-        print_count(rt, "cases ", self.cases as u64)?;
-        print_count(rt, "differ ", self.differ as u64)?;
-        print!(rt; "tally {}", tally.accepted)?;
-        print_count(rt, " ", wide_number(tally.refused))
+        let Tally { accepted, refused } = self.sections;
+        println!(rt; "cases {}", self.cases)?;
+        println!(rt; "differ {}", self.differ)?;
+        println!(rt; "tally {accepted} {refused}")
     }
 }
 
@@ -188,44 +176,35 @@ fn more(n: usize) -> usize {
     if n < TOO_MANY { n + 1 } else { n }
 }
 
-fn print_count(rt: &impl Print, name: &str, n: u64) -> io::Result<()> {
-    println!(rt; "{name}{n}")
-}
-
-// Reads the next case to the start of line, and the end of its line after it, and answers the case's length.
-fn read_case(input: &mut impl Read, line: &mut [u8]) -> io::Result<usize> {
+// Reads the next case to the start of line, and the end of its line after it.
+fn read_case(input: &mut impl Read, line: &mut [u8]) -> io::Result<Next> {
     let mut head = [0u8; LENGTH_DIGITS + 1];
     let n = read_full(input, &mut head)?;
     if n == 0 {
-        return Ok(END);
+        return Ok(Next::End);
     }
-    if n != LENGTH_DIGITS + 1 {
-        return Ok(BAD);
-    }
-    if head[LENGTH_DIGITS] != b' ' {
-        return Ok(BAD);
+    if n != LENGTH_DIGITS + 1 || head[LENGTH_DIGITS] != b' ' {
+        return Ok(Next::Bad);
     }
     let mut size = [0u32; 1];
     if !parse_numbers(&head[..LENGTH_DIGITS], &mut size) {
-        return Ok(BAD);
+        return Ok(Next::Bad);
     }
-    read_line(input, line, wide_number(size[0]) as usize)
+    read_line(input, line, size[0] as usize)
 }
 
-// Reads a line of size bytes and its end.
-fn read_line(input: &mut impl Read, line: &mut [u8], size: usize) -> io::Result<usize> {
-    if line.len() <= size {
-        return Ok(BAD);
+// Reads a line of len bytes and its end.
+fn read_line(input: &mut impl Read, line: &mut [u8], len: usize) -> io::Result<Next> {
+    if line.len() <= len {
+        return Ok(Next::Bad);
     }
-    let end = size + 1;
+    let end = len + 1;
     let n = read_full(input, &mut line[..end])?;
-    if n != end {
-        return Ok(BAD);
+    if n == end && line[len] == b'\n' {
+        Ok(Next::Case { len })
+    } else {
+        Ok(Next::Bad)
     }
-    if line[size] != b'\n' {
-        return Ok(BAD);
-    }
-    Ok(size)
 }
 
 // Runs a case, the one with that number, and counts it.
@@ -234,43 +213,33 @@ fn run(
     case: &[u8],
     number: usize,
     space: &mut [u8],
-    counts: Counts,
-) -> io::Result<Counts> {
+    tallies: Tallies,
+) -> io::Result<Tallies> {
     let mut numbers = [0u32; CASE_NUMBERS];
-    let n = parse(after(case), &mut numbers, space, counts.bytes);
-    run_parsed(rt, case, number, &numbers, space, n, counts)
+    let n = parse(after(case), &mut numbers, space, tallies.bytes);
+    run_parsed(rt, case, number, &numbers, space, n, tallies)
 }
 
-// Runs a case with its numbers, whose bytes are the first n of space.
+// Runs a case with its numbers, whose bytes are the first n of space, if it could be parsed.
 fn run_parsed(
     rt: &impl Print,
     case: &[u8],
     number: usize,
     numbers: &[u32; CASE_NUMBERS],
     space: &[u8],
-    n: usize,
-    counts: Counts,
-) -> io::Result<Counts> {
-    if space.len() < n {
-        return judge(rt, case, b"", b"bad case", counts);
-    }
-    let letter = first(case);
-    let mut out = large_buffer();
-    let tally = counts.tally;
-    let ran = answer(letter, numbers, number, &space[..n], &mut out, tally);
-    let end = ran.end;
-    let tally = ran.tally;
+    n: Option<usize>,
+    tallies: Tallies,
+) -> io::Result<Tallies> {
+    let Some(n) = n else {
+        return judge(rt, case, b"", b"bad case", tallies);
+    };
+    let Some(s) = space.get(..n) else {
+        return judge(rt, case, b"", b"bad case", tallies);
+    };
+    let mut out = Out::new();
+    let sections = answer(first(case), numbers, number, s, &mut out, tallies.sections);
     let right = after(after(after(case)));
-    judge(rt, case, right, start_of(&out, end), counts.ran(n, tally))
-}
-
-// The first bytes of the space for answers.
-fn start_of<'a>(out: &'a [u8; OUT_SIZE], end: usize) -> &'a [u8] {
-    let all: &'a [u8] = out;
-    if end < all.len() {
-        return &all[..end];
-    }
-    all
+    judge(rt, case, right, out.as_slice(), tallies.ran(n, sections))
 }
 
 // Prints a case and its answer, unless that is the right one.
@@ -279,38 +248,33 @@ fn judge(
     case: &[u8],
     right: &[u8],
     answer: &[u8],
-    counts: Counts,
-) -> io::Result<Counts> {
+    tallies: Tallies,
+) -> io::Result<Tallies> {
     if answer == right {
-        return Ok(counts);
+        return Ok(tallies);
     }
     rt.write_all(case)?;
     rt.write_all(b"\n")?;
     rt.write_all(answer)?;
     rt.write_all(b"\n")?;
-    Ok(counts.differed())
+    Ok(tallies.differed())
 }
 
 // The letter of a case, or 0 where there is none.
 fn first(case: &[u8]) -> u8 {
-    if case.len() == 0 {
-        return 0;
-    }
-    case[0]
+    case.first().copied().unwrap_or(0)
 }
 
 // The place of the first blank, or the length where there is none.
 fn blank(s: &[u8]) -> usize
     ensures { result ≤ length s.now }
 {
-    let mut k = 0;
-    while k < s.len() {
+    for k in 0..s.len() {
         if s[k] == b' ' {
             return k;
         }
-        k += 1;
     }
-    k
+    s.len()
 }
 
 // What stands before the first blank.
@@ -330,20 +294,24 @@ fn after<'a>(s: &'a [u8]) -> &'a [u8] {
 }
 
 // Parses the numbers and the bytes of a case, and answers how many bytes there are.
-fn parse(s: &[u8], numbers: &mut [u32; CASE_NUMBERS], space: &mut [u8], before: usize) -> usize {
+fn parse(
+    s: &[u8],
+    numbers: &mut [u32; CASE_NUMBERS],
+    space: &mut [u8],
+    before: usize,
+) -> Option<usize> {
     if parse_numbers(field(s), numbers) {
-        return parse_bytes(field(after(s)), space, before);
+        parse_bytes(field(after(s)), space, before)
+    } else {
+        None
     }
-    BAD
 }
 
 // Puts the numbers of a field into out, which holds only 0, and tells whether they are numbers and there is room for them.
 fn parse_numbers(s: &[u8], out: &mut [u32]) -> bool {
     let mut i = 0;
-    let mut k = 0;
-    while k < s.len() {
-        i = parse_digit(out, i, s[k]);
-        k += 1;
+    for c in s {
+        i = parse_digit(out, i, *c);
     }
     i < out.len()
 }
@@ -357,12 +325,11 @@ fn parse_digit(out: &mut [u32], i: usize, c: u8) -> usize {
     if c == b',' {
         return i + 1;
     }
-    let d = digit(c);
-    let n = wide_number(out[i]) * 10 + wide(d);
-    if 10 <= d {
+    let Some(d) = digit(c) else {
         return out.len();
-    }
-    if LARGEST < n {
+    };
+    let n = out[i] as u64 * 10 + d as u64;
+    if 10 <= d || LARGEST < n {
         return out.len();
     }
     out[i] = n as u32;
@@ -370,330 +337,194 @@ fn parse_digit(out: &mut [u32], i: usize, c: u8) -> usize {
 }
 
 // Puts the bytes of a field into out, where those of the case before still stand, and answers their number.
-fn parse_bytes(s: &[u8], out: &mut [u8], before: usize) -> usize {
-    if s == b"-".as_slice() {
-        return 0;
+fn parse_bytes(s: &[u8], out: &mut [u8], before: usize) -> Option<usize> {
+    match s {
+        b"-" => Some(0),
+        b"=" => Some(before),
+        _ => parse_pairs(s, out),
     }
-    if s == b"=".as_slice() {
-        return before;
-    }
-    parse_pairs(s, out)
 }
 
 // Puts the bytes that pairs of digits stand for into out, and answers their number.
-fn parse_pairs(s: &[u8], out: &mut [u8]) -> usize {
+fn parse_pairs(s: &[u8], out: &mut [u8]) -> Option<usize> {
     let n = s.len() / 2;
     if out.len() < n {
-        return BAD;
+        return None;
     }
-    let mut k = 0;
-    while k < n {
-        let high = digit(s[k * 2]);
-        let low = digit(s[k * 2 + 1]);
-        if 16 <= high {
-            return BAD;
-        }
-        if 16 <= low {
-            return BAD;
-        }
+    for k in 0..n {
+        let high = digit(s[k * 2])?;
+        let low = digit(s[k * 2 + 1])?;
         out[k] = high * 16 + low;
-        k += 1;
     }
-    if s.len() == 0 {
-        return BAD;
+    if s.is_empty() || n * 2 < s.len() {
+        return None;
     }
-    if n * 2 < s.len() {
-        return BAD;
-    }
-    n
+    Some(n)
 }
 
-// What a hexadecimal digit stands for, 16 where it is none.
-fn digit(c: u8) -> u8 {
-    if b'0' <= c && c <= b'9' {
-        return c - b'0';
-    }
-    if b'a' <= c && c <= b'f' {
-        return c - b'a' + 10;
-    }
-    16
-}
-
-fn wide(x: u8) -> u64
-    ensures { result ≤ 255 }
+// What a hexadecimal digit stands for.
+fn digit(c: u8) -> Option<u8>
+    ensures { IfSome result (λ d. d < 16) }
 {
-    x as u64
+    match c {
+        b'0'..=b'9' => Some(c - b'0'),
+        b'a'..=b'f' => Some(c - b'a' + 10),
+        _ => None,
+    }
 }
 
-fn wide_number(x: u32) -> u64
-    ensures { result ≤ 4294967295 }
-{
-    x as u64
-}
-
-// Where the text of an answer ends, and the tally after it.
-#[derive(Drop)]
-struct Ran {
-    end: usize,
-    tally: Tally,
-}
-
-// Has the bytes s of a case answered, and puts the text of the answer to the start of out. A text that is too long is cut where
-// out ends, and is longer than any case then.
+// Has the bytes s of a case answered, puts the text of the answer to out, and answers the tally after it.
 fn answer(
     letter: u8,
     numbers: &[u32; CASE_NUMBERS],
     number: usize,
     s: &[u8],
-    out: &mut [u8; OUT_SIZE],
+    out: &mut Out,
     tally: Tally,
-) -> Ran {
-    if is_reading(letter) {
-        return read(
-            letter,
-            wide_number(numbers[0]) as usize,
-            number,
-            s,
-            out,
-            tally,
-        );
-    }
-    let end = answer_other(letter, numbers, s, out);
-    Ran { end, tally }
-}
-
-fn is_reading(letter: u8) -> bool {
-    letter == b'S' || letter == b'P' || letter == b'M' || letter == b'G' || letter == b'f'
-}
-
-fn answer_other(
-    letter: u8,
-    numbers: &[u32; CASE_NUMBERS],
-    s: &[u8],
-    out: &mut [u8; OUT_SIZE],
-) -> usize {
+) -> Tally {
     match letter {
+        b'S' | b'P' | b'M' | b'G' | b'f' => {
+            return read(letter, numbers[0] as usize, number, s, out, tally);
+        }
         b'F' => find_section(numbers, s, out),
-        b'T' => row_text(numbers, s, out),
-        b'K' => kept_name(numbers, s, out),
-        b'N' => sql_name(numbers, s, out),
+        b'T' => put_part(out, parts::row_text(s, row(numbers))),
+        b'K' => put_part(out, parts::kept_name(s, row(numbers))),
+        b'N' => put_part(out, parts::sql_name(s, row(numbers))),
         b'Q' => sql_text(numbers, s, out),
         b'O' => objects(s, out),
         b'R' => path_repeats(numbers, s, out),
         b'H' => entity_at(numbers, s, out),
-        b'W' | b'w' | b'V' | b'v' => write(letter, numbers, s, out),
-        b'E' | b'e' | b'Y' | b'y' => write(letter, numbers, s, out),
+        b'W' | b'w' | b'V' | b'v' | b'E' | b'e' | b'Y' | b'y' => write(letter, numbers, s, out),
         b'U' => text_check(s, out),
         b'C' => kept_len(s, out),
         b'X' => name_start(s, out),
         _ => bad_case(out),
     }
+    tally
 }
 
 // The answer where a case asks for what there is not.
-fn bad_case(out: &mut [u8; OUT_SIZE]) -> usize {
-    put(out, 0, b"bad case")
+fn bad_case(out: &mut Out) {
+    out.extend_from_slice(b"bad case")
 }
 
 // A reading with a table of that many rows, and up to nearly one row more.
-fn read(
-    letter: u8,
-    rows: usize,
-    number: usize,
-    s: &[u8],
-    out: &mut [u8; OUT_SIZE],
-    tally: Tally,
-) -> Ran {
+fn read(letter: u8, rows: usize, number: usize, s: &[u8], out: &mut Out, tally: Tally) -> Tally {
     if MOST_ROWS < rows {
-        let end = bad_case(out);
-        return Ran { end, tally };
+        bad_case(out);
+        return tally;
     }
     let mut table = [FILL; MOST_NUMBERS];
     let size = rows * ROW_WIDTH + number % ROW_WIDTH;
     read_with(letter, s, &mut table[..size], out, tally)
 }
 
-fn read_with(letter: u8, s: &[u8], t: &mut [u32], out: &mut [u8; OUT_SIZE], tally: Tally) -> Ran {
+fn read_with(letter: u8, s: &[u8], t: &mut [u32], out: &mut Out, tally: Tally) -> Tally {
     let tallied = decode(letter, s, t, tally);
-    let answer = tallied.answer;
-    let end = spell(answer, t, out);
-    let tally = tallied.tally;
-    Ran { end, tally }
+    spell(tallied.answer, t, out);
+    tallied.tally
 }
 
 fn decode(letter: u8, s: &[u8], t: &mut [u32], tally: Tally) -> Tallied {
-    if letter == b'S' {
-        return tally::decode_entities_tallied(s, t, tally);
-    }
-    let answer = decode_alone(letter, s, t);
-    Tallied { answer, tally }
-}
-
-fn decode_alone(letter: u8, s: &[u8], t: &mut [u32]) -> Answer {
-    match letter {
+    let answer = match letter {
+        b'S' => return tally::decode_entities_tallied(s, t, tally),
         b'P' => entity::decode_entity(s, t),
         b'M' => metadata::decode_function_metadata_type(s, t),
         b'f' => object::decode_object(s, b".pgrxsc", t),
         _ => metadata::decode_sql_mapping(s, t),
-    }
+    };
+    Tallied { answer, tally }
 }
 
 // Puts the text of an answer and its table.
-fn spell(answer: Answer, t: &[u32], out: &mut [u8; OUT_SIZE]) -> usize {
+fn spell(answer: Result<Counts, Refusal>, t: &[u32], out: &mut Out) {
     let used = used_numbers(answer, t);
-    let end = spell_answer(answer, out);
-    let end = put_numbers(out, end, &t[..used]);
-    if is_clear(&t[used..]) {
-        return end;
-    }
-    put(out, end, b" and not cleared")
-}
-
-fn spell_answer(answer: Answer, out: &mut [u8; OUT_SIZE]) -> usize {
     match answer {
-        Answer::Accepted { entities, rows } => spell_counts(entities, rows, out),
-        Answer::Refused(refusal) => put_refusal(out, 0, refusal),
+        Ok(counts) => put_counts(out, counts.entities, counts.rows),
+        Err(refusal) => put_refusal(out, refusal),
     }
-}
-
-fn spell_counts(entities: usize, rows: usize, out: &mut [u8; OUT_SIZE]) -> usize {
-    let end = spell_accepted(entities as u64, out);
-    put_number(out, end, rows as u64)
-}
-
-// Puts the two 0 of what is not refused, and the number after them.
-fn spell_accepted(n: u64, out: &mut [u8; OUT_SIZE]) -> usize {
-    let end = put(out, 0, b"0 0");
-    put_number(out, end, n)
+    for n in &t[..used] {
+        put_number(out, *n as u64);
+    }
+    if !t[used..].iter().all(|n| *n == 0) {
+        out.extend_from_slice(b" and not cleared");
+    }
 }
 
 // How many numbers of the table the rows of an answer take: all of them where the table has fewer rows.
-fn used_numbers(answer: Answer, t: &[u32]) -> usize
+fn used_numbers(answer: Result<Counts, Refusal>, t: &[u32]) -> usize
     ensures { result ≤ length t.now }
 {
     match answer {
-        Answer::Accepted { entities: _, rows } => {
-            if rows <= t.len() / ROW_WIDTH {
-                rows * ROW_WIDTH
-            } else {
-                t.len()
-            }
-        }
-        Answer::Refused(_) => 0,
+        Ok(counts) if counts.rows <= t.len() / ROW_WIDTH => counts.rows * ROW_WIDTH,
+        Ok(_) => t.len(),
+        Err(_) => 0,
     }
-}
-
-fn is_clear(t: &[u32]) -> bool {
-    let mut k = 0;
-    while k < t.len() {
-        if t[k] != 0 {
-            return false;
-        }
-        k += 1;
-    }
-    true
 }
 
 // A section as objects.
-fn objects(s: &[u8], out: &mut [u8; OUT_SIZE]) -> usize {
+fn objects(s: &[u8], out: &mut Out) {
     let mut table = [FILL; MOST_NUMBERS];
     objects_with(s, &mut table, out)
 }
 
-fn objects_with(s: &[u8], t: &mut [u32], out: &mut [u8; OUT_SIZE]) -> usize {
+fn objects_with(s: &[u8], t: &mut [u32], out: &mut Out) {
     let answer = section::decode_entities(s, t);
     let used = used_numbers(answer, t);
     match answer {
-        Answer::Accepted { entities, rows: _ } => spell_objects(
-            entities as u64,
-            &t[..used],
-            s,
-            out,
-        ),
-        Answer::Refused(_) => put(out, 0, b"refuse"),
+        Ok(counts) => spell_objects(counts.entities as u64, &t[..used], s, out),
+        Err(_) => out.extend_from_slice(b"refuse"),
     }
 }
 
-fn spell_objects(entities: u64, t: &[u32], s: &[u8], out: &mut [u8; OUT_SIZE]) -> usize {
-    let end = put(out, 0, b"accept");
-    let end = put_number(out, end, entities);
-    if t.len() == 0 {
-        return put(out, end, b" -");
+fn spell_objects(entities: u64, t: &[u32], s: &[u8], out: &mut Out) {
+    out.extend_from_slice(b"accept");
+    put_number(out, entities);
+    if t.is_empty() {
+        return out.extend_from_slice(b" -");
     }
-    let end = put_blank(out, end);
-    put_fields(out, end, t, s)
+    put_blank(out);
+    for i in 0..t.len() / ROW_WIDTH {
+        put_field(out, table::row_at(t, i), s);
+    }
 }
 
-// Puts the fields of the rows of a table, without a blank between two.
-fn put_fields(out: &mut [u8; OUT_SIZE], at: usize, t: &[u32], s: &[u8]) -> usize {
-    let mut end = at;
-    let mut k = 0;
-    while ROW_WIDTH <= t.len() - k {
-        let next = k + ROW_WIDTH;
-        end = put_field(out, end, &t[k..next], s);
-        k = next;
+// Puts the field of a row, without a blank before it.
+fn put_field(out: &mut Out, row: Row, s: &[u8]) {
+    if row.sort != layout::SORT_TEXT {
+        return put_digits(out, &row.value.to_le_bytes());
     }
-    end
-}
-
-fn put_field(out: &mut [u8; OUT_SIZE], at: usize, t: &[u32], s: &[u8]) -> usize {
-    if t.len() != ROW_WIDTH {
-        return at;
+    if let Ok(text) = parts::row_text(s, row) {
+        put_digits(out, text);
     }
-    if t[0] != layout::SORT_TEXT {
-        return put_four(out, at, t[2]);
-    }
-    let mut number = FILL;
-    let mut place = FILL_PLACE;
-    let row = Row {
-        sort: t[0],
-        offset: t[1],
-        value: t[2],
-    };
-    put_digits(out, at, parts::row_text(s, row, &mut number, &mut place))
-}
-
-// Puts the four bytes of a number, the lowest first.
-fn put_four(out: &mut [u8; OUT_SIZE], at: usize, n: u32) -> usize {
-    let bytes = [
-        (n % 256) as u8,
-        (n / 256 % 256) as u8,
-        (n / 65536 % 256) as u8,
-        (n / 16777216) as u8,
-    ];
-    put_digits(out, at, &bytes)
 }
 
 // The path report, with as many numbers of work as the case asks for.
-fn path_repeats(numbers: &[u32; CASE_NUMBERS], s: &[u8], out: &mut [u8; OUT_SIZE]) -> usize {
-    let size = wide_number(numbers[0]) as usize;
+fn path_repeats(numbers: &[u32; CASE_NUMBERS], s: &[u8], out: &mut Out) {
+    let size = numbers[0] as usize;
     if MOST_NUMBERS < size {
         return bad_case(out);
     }
     let mut work = [FILL; MOST_NUMBERS];
-    spell_report(paths::path_repeats(s, &mut work[..size]), out)
-}
-
-fn spell_report(report: PathReport, out: &mut [u8; OUT_SIZE]) -> usize {
-    match report {
-        PathReport::Counted { pairs } => spell_accepted(pairs, out),
-        PathReport::Refused(refusal) => put_refusal(out, 0, refusal),
+    match paths::path_repeats(s, &mut work[..size]) {
+        Ok(pairs) => put_accepted(out, pairs),
+        Err(refusal) => put_refusal(out, refusal),
     }
 }
 
 // What holds the byte at a position.
-fn entity_at(numbers: &[u32; CASE_NUMBERS], s: &[u8], out: &mut [u8; OUT_SIZE]) -> usize {
-    let position = NUMBERS * wide_number(numbers[1]) + wide_number(numbers[0]);
+fn entity_at(numbers: &[u32; CASE_NUMBERS], s: &[u8], out: &mut Out) {
+    let position = NUMBERS * numbers[1] as u64 + numbers[0] as u64;
     match directory::entity_at(s, position) {
-        Holder::Entity { index } => spell_counts(1, index, out),
-        Holder::Nothing => spell_counts(0, 0, out),
-        Holder::Refused(refusal) => put_refusal(out, 0, refusal),
+        Ok(Some(index)) => put_counts(out, 1, index),
+        Ok(None) => put_counts(out, 0, 0),
+        Err(refusal) => put_refusal(out, refusal),
     }
 }
 
 // The section of a shared object: where it is, and the part.
-fn find_section(numbers: &[u32; CASE_NUMBERS], s: &[u8], out: &mut [u8; OUT_SIZE]) -> usize {
-    let size = wide_number(numbers[0]) as usize;
+fn find_section(numbers: &[u32; CASE_NUMBERS], s: &[u8], out: &mut Out) {
+    let size = numbers[0] as usize;
     if MOST_BUFFER < size {
         return bad_case(out);
     }
@@ -704,49 +535,18 @@ fn find_section(numbers: &[u32; CASE_NUMBERS], s: &[u8], out: &mut [u8; OUT_SIZE
 // The numbers after the first, as bytes.
 fn bytes_of(numbers: &[u32; CASE_NUMBERS]) -> [u8; MOST_BUFFER] {
     let mut bytes = [0u8; MOST_BUFFER];
-    let mut k = 0;
-    while k < MOST_BUFFER {
+    for k in 0..MOST_BUFFER {
         bytes[k] = (numbers[k + 1] % 256) as u8;
-        k += 1;
     }
     bytes
 }
 
-fn find_section_with(s: &[u8], name: &[u8], out: &mut [u8; OUT_SIZE]) -> usize {
-    let end = spell_place(elf::place_section(s, name), out);
-    let mut number = FILL;
-    let mut place = FILL_PLACE;
-    let part = elf::find_section(s, name, &mut number, &mut place);
-    let end = put_refusal(out, end, Refusal { number, place });
-    put_bytes(out, end, part)
-}
-
-fn spell_place(found: PartPlace, out: &mut [u8; OUT_SIZE]) -> usize {
-    match found {
-        PartPlace::Part { start, len } => spell_counts(start, len, out),
-        PartPlace::Refused(refusal) => put_refusal(out, 0, refusal),
+fn find_section_with(s: &[u8], name: &[u8], out: &mut Out) {
+    match elf::place_section(s, name) {
+        Ok(part) => put_counts(out, part.start, part.len),
+        Err(refusal) => put_refusal(out, refusal),
     }
-}
-
-fn row_text(numbers: &[u32; CASE_NUMBERS], s: &[u8], out: &mut [u8; OUT_SIZE]) -> usize {
-    let mut number = FILL;
-    let mut place = FILL_PLACE;
-    let part = parts::row_text(s, row(numbers), &mut number, &mut place);
-    spell_part(number, place, part, out)
-}
-
-fn kept_name(numbers: &[u32; CASE_NUMBERS], s: &[u8], out: &mut [u8; OUT_SIZE]) -> usize {
-    let mut number = FILL;
-    let mut place = FILL_PLACE;
-    let part = parts::kept_name(s, row(numbers), &mut number, &mut place);
-    spell_part(number, place, part, out)
-}
-
-fn sql_name(numbers: &[u32; CASE_NUMBERS], s: &[u8], out: &mut [u8; OUT_SIZE]) -> usize {
-    let mut number = FILL;
-    let mut place = FILL_PLACE;
-    let part = parts::sql_name(s, row(numbers), &mut number, &mut place);
-    spell_part(number, place, part, out)
+    put_part(out, elf::find_section(s, name))
 }
 
 fn row(numbers: &[u32; CASE_NUMBERS]) -> Row {
@@ -757,13 +557,8 @@ fn row(numbers: &[u32; CASE_NUMBERS]) -> Row {
     }
 }
 
-fn spell_part(number: u32, place: usize, part: &[u8], out: &mut [u8; OUT_SIZE]) -> usize {
-    let end = put_refusal(out, 0, Refusal { number, place });
-    put_bytes(out, end, part)
-}
-
-fn sql_text(numbers: &[u32; CASE_NUMBERS], s: &[u8], out: &mut [u8; OUT_SIZE]) -> usize {
-    let size = wide_number(numbers[1]) as usize;
+fn sql_text(numbers: &[u32; CASE_NUMBERS], s: &[u8], out: &mut Out) {
+    let size = numbers[1] as usize;
     if MOST_BUFFER < size {
         return bad_case(out);
     }
@@ -771,31 +566,20 @@ fn sql_text(numbers: &[u32; CASE_NUMBERS], s: &[u8], out: &mut [u8; OUT_SIZE]) -
     sql_text_with(s, numbers[0], &mut buffer[..size], out)
 }
 
-fn sql_text_with(s: &[u8], offset: u32, buffer: &mut [u8], out: &mut [u8; OUT_SIZE]) -> usize {
-    let mut number = FILL;
-    let mut place = FILL_PLACE;
-    sql_text::fill_sql_text(s, offset, buffer, &mut number, &mut place);
-    let end = sql_part(s, offset, buffer, out);
-    put_refusal(out, end, Refusal { number, place })
-}
-
-fn sql_part<'a>(s: &'a [u8], offset: u32, buffer: &'a [u8], out: &mut [u8; OUT_SIZE]) -> usize {
-    let mut number = FILL;
-    let mut place = FILL_PLACE;
-    let part = sql_text::sql_text(s, offset, buffer, &mut number, &mut place);
-    let end = spell_part(number, place, part, out);
-    put_bytes(out, end, buffer)
+fn sql_text_with(s: &[u8], offset: u32, buffer: &mut [u8], out: &mut Out) {
+    let filled = sql_text::fill_sql_text(s, offset, buffer);
+    put_part(out, sql_text::sql_text(s, offset, buffer));
+    put_bytes(out, buffer);
+    match filled {
+        Ok(()) => put_nothing_refused(out),
+        Err(refusal) => put_refusal(out, refusal),
+    }
 }
 
 // A writing or a measuring, with the bytes of a case as the lent text.
-fn write(
-    letter: u8,
-    numbers: &[u32; CASE_NUMBERS],
-    text: &[u8],
-    out: &mut [u8; OUT_SIZE],
-) -> usize {
-    let size = wide_number(numbers[0]) as usize;
-    let end = 2 + wide_number(numbers[1]) as usize;
+fn write(letter: u8, numbers: &[u32; CASE_NUMBERS], text: &[u8], out: &mut Out) {
+    let size = numbers[0] as usize;
+    let end = 2 + numbers[1] as usize;
     let all: &[u32] = numbers;
     if MOST_BUFFER < size || all.len() < end {
         return bad_case(out);
@@ -804,30 +588,20 @@ fn write(
     write_with(letter, &all[2..end], text, &mut dest[..size], out)
 }
 
-fn write_with(
-    letter: u8,
-    rows: &[u32],
-    text: &[u8],
-    dest: &mut [u8],
-    out: &mut [u8; OUT_SIZE],
-) -> usize {
-    let length = encode(letter, rows, text, dest);
-    let end = spell_length(length, out);
-    put_bytes(out, end, dest)
+fn write_with(letter: u8, rows: &[u32], text: &[u8], dest: &mut [u8], out: &mut Out) {
+    match encode(letter, rows, text, dest) {
+        Ok(length) => put_accepted(out, length as u64),
+        Err(refusal) => put_refusal(out, refusal),
+    }
+    put_bytes(out, dest)
 }
 
-fn encode(letter: u8, rows: &[u32], text: &[u8], dest: &mut [u8]) -> Length {
+fn encode(letter: u8, rows: &[u32], text: &[u8], dest: &mut [u8]) -> Result<usize, Refusal> {
     match letter {
         b'W' => writer::encode_function_metadata_type(rows, text, dest),
         b'w' => writer::encode_sql_mapping(rows, text, dest),
         b'E' => entity_writer::encode_entity(rows, text, dest),
         b'e' => section_writer::encode_entities(rows, text, dest),
-        _ => measure(letter, rows, text),
-    }
-}
-
-fn measure(letter: u8, rows: &[u32], text: &[u8]) -> Length {
-    match letter {
         b'V' => writer::function_metadata_type_len(rows, text),
         b'v' => writer::sql_mapping_len(rows, text),
         b'Y' => entity_writer::entity_len(rows, text),
@@ -835,155 +609,125 @@ fn measure(letter: u8, rows: &[u32], text: &[u8]) -> Length {
     }
 }
 
-fn spell_length(length: Length, out: &mut [u8; OUT_SIZE]) -> usize {
-    match length {
-        Length::Counted { count } => spell_accepted(count as u64, out),
-        Length::Refused(refusal) => put_refusal(out, 0, refusal),
-    }
-}
-
-fn text_check(s: &[u8], out: &mut [u8; OUT_SIZE]) -> usize {
+fn text_check(s: &[u8], out: &mut Out) {
     let yes = text::is_utf8(s);
-    if !same_in_parts(s, yes) {
-        put(out, 0, b"parts")
+    let told: &[u8] = if !same_in_parts(s, yes) {
+        b"parts"
     } else if yes {
-        put(out, 0, b"yes")
+        b"yes"
     } else {
-        put(out, 0, b"no")
-    }
+        b"no"
+    };
+    out.extend_from_slice(told)
 }
 
 // Whether a walk over s in two parts, wherever they part, tells what the check told.
 fn same_in_parts(s: &[u8], yes: bool) -> bool {
-    let mut k = 0;
-    while k <= s.len() {
-        let first = text::walk(State::Start, &s[0..k]);
-        if ends_a_character(text::walk(first, &s[k..])) != yes {
+    for k in 0..=s.len() {
+        let (first, second) = s.split_at(k);
+        let end = text::walk(text::walk(State::Start, first), second);
+        if (end == State::Start) != yes {
             return false;
         }
-        k += 1;
     }
     true
 }
 
-fn ends_a_character(q: State) -> bool {
-    if let State::Start = q { true } else { false }
-}
-
-fn kept_len(s: &[u8], out: &mut [u8; OUT_SIZE]) -> usize {
+fn kept_len(s: &[u8], out: &mut Out) {
     match text::check_text(s) {
-        TextCheck::Yes { kept } => {
-            let end = put(out, 0, b"kept");
-            put_number(out, end, kept as u64)
+        Some(kept) => {
+            out.extend_from_slice(b"kept");
+            put_number(out, kept as u64)
         }
-        TextCheck::No => put(out, 0, b"no"),
+        None => out.extend_from_slice(b"no"),
     }
 }
 
-fn name_start(s: &[u8], out: &mut [u8; OUT_SIZE]) -> usize {
+fn name_start(s: &[u8], out: &mut Out) {
     let answer = parts::name_start(s);
-    if !same_start_in_parts(s, start_number(answer)) {
-        return put(out, 0, b"parts");
+    if !same_start_in_parts(s, answer) {
+        return out.extend_from_slice(b"parts");
     }
     match answer {
-        NameStart::At { start } => {
-            let end = put(out, 0, b"start");
-            put_number(out, end, start as u64)
+        Some(start) => {
+            out.extend_from_slice(b"start");
+            put_number(out, start as u64)
         }
-        NameStart::NotUtf8 => put(out, 0, b"no"),
+        None => out.extend_from_slice(b"no"),
     }
 }
 
 // Whether a walk over s in two parts, wherever they part, and one byte by byte tell the same start.
-fn same_start_in_parts(s: &[u8], start: usize) -> bool {
+fn same_start_in_parts(s: &[u8], start: Option<usize>) -> bool {
     let mut bytewise = NameWalk::new();
-    let mut k = 0;
-    while k < s.len() {
-        if start_number(NameWalk::new().walk(&s[0..k]).walk(&s[k..]).answer()) != start {
+    for k in 0..s.len() {
+        let (first, second) = s.split_at(k);
+        if NameWalk::new().walk(first).walk(second).answer() != start {
             return false;
         }
-        let next = k + 1;
-        bytewise = bytewise.walk(&s[k..next]);
-        k = next;
+        bytewise = bytewise.walk(&[s[k]]);
     }
-    start_number(NameWalk::new().walk(s).walk(&s[k..]).answer()) == start
-        && start_number(bytewise.answer()) == start
+    NameWalk::new().walk(s).walk(&[]).answer() == start && bytewise.answer() == start
 }
 
-// An answer as one number: END for one that tells no start.
-fn start_number(answer: NameStart) -> usize {
-    match answer {
-        NameStart::At { start } => start,
-        NameStart::NotUtf8 => END,
+// Each of these puts something to the end of out, as far as there is room. A blank is put between two of numbers and bytes.
+fn put_blank(out: &mut Out) {
+    if !out.as_slice().is_empty() {
+        out.push(b' ');
     }
 }
 
-// Each of these puts something into out from the place at on, as far as there is room, and answers the place after it. A blank
-// is put between two of numbers and bytes.
-fn put(out: &mut [u8; OUT_SIZE], at: usize, s: &[u8]) -> usize {
-    let mut end = at;
-    let mut k = 0;
-    while k < s.len() {
-        if OUT_SIZE <= end {
-            return end;
+fn put_number(out: &mut Out, n: u64) {
+    put_blank(out);
+    out.extend_from_slice(decimal::decimal(n).as_slice())
+}
+
+// The two 0 of what is not refused.
+fn put_nothing_refused(out: &mut Out) {
+    put_number(out, 0);
+    put_number(out, 0)
+}
+
+fn put_accepted(out: &mut Out, n: u64) {
+    put_nothing_refused(out);
+    put_number(out, n)
+}
+
+fn put_counts(out: &mut Out, first: usize, second: usize) {
+    put_accepted(out, first as u64);
+    put_number(out, second as u64)
+}
+
+fn put_refusal(out: &mut Out, refusal: Refusal) {
+    put_number(out, refusal.kind.number() as u64);
+    put_number(out, refusal.place as u64)
+}
+
+// A part with the number and place before it; after a refusal an empty one.
+fn put_part(out: &mut Out, part: Result<&[u8], Refusal>) {
+    match part {
+        Ok(bytes) => {
+            put_nothing_refused(out);
+            put_bytes(out, bytes)
         }
-        out[end] = s[k];
-        end += 1;
-        k += 1;
+        Err(refusal) => {
+            put_refusal(out, refusal);
+            put_bytes(out, &[])
+        }
     }
-    end
 }
 
-fn put_blank(out: &mut [u8; OUT_SIZE], at: usize) -> usize {
-    if at == 0 {
-        return 0;
+fn put_bytes(out: &mut Out, s: &[u8]) {
+    put_blank(out);
+    if s.is_empty() {
+        return out.push(b'-');
     }
-    put(out, at, b" ")
+    put_digits(out, s)
 }
 
-fn put_number(out: &mut [u8; OUT_SIZE], at: usize, n: u64) -> usize {
-    let digits = decimal::decimal(n);
-    let bytes = digits.bytes;
-    let len = digits.len;
-    let end = put_blank(out, at);
-    put(out, end, &bytes[..len])
-}
-
-fn put_numbers(out: &mut [u8; OUT_SIZE], at: usize, t: &[u32]) -> usize {
-    let mut end = at;
-    let mut k = 0;
-    while k < t.len() {
-        end = put_number(out, end, wide_number(t[k]));
-        k += 1;
+fn put_digits(out: &mut Out, s: &[u8]) {
+    for x in s {
+        out.push(HEX_DIGITS[(*x / 16) as usize]);
+        out.push(HEX_DIGITS[(*x % 16) as usize]);
     }
-    end
-}
-
-fn put_refusal(out: &mut [u8; OUT_SIZE], at: usize, refusal: Refusal) -> usize {
-    let end = put_number(out, at, wide_number(refusal.number));
-    put_number(out, end, refusal.place as u64)
-}
-
-fn put_bytes(out: &mut [u8; OUT_SIZE], at: usize, s: &[u8]) -> usize {
-    let end = put_blank(out, at);
-    if s.len() == 0 {
-        return put(out, end, b"-");
-    }
-    put_digits(out, end, s)
-}
-
-fn put_digits(out: &mut [u8; OUT_SIZE], at: usize, s: &[u8]) -> usize {
-    let mut end = at;
-    let mut k = 0;
-    while k < s.len() {
-        end = put_byte(out, end, s[k]);
-        k += 1;
-    }
-    end
-}
-
-fn put_byte(out: &mut [u8; OUT_SIZE], at: usize, x: u8) -> usize {
-    let high = HEX_DIGITS[(x / 16) as usize];
-    let low = HEX_DIGITS[(x % 16) as usize];
-    put(out, at, &[high, low])
 }

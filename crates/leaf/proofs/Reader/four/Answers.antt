@@ -4,7 +4,9 @@ use mathlib.Core.Path.{◌∙◌}
 use lib.ListN.{length}
 use borrow.Author.Tests.{lt-leb, le-leb}
 use Rattle.raw_bytes.proofs.Number.{number_there}
+use Rattle.layout.specs.Reading.{four_at}
 use Rattle.leaf.specs.Reader.{state_of}
+use Rattle.leaf.specs.Private.{put_number}
 use Rattle.leaf.proofs.Leaves.{read_on, not_on}
 use Rattle.leaf.proofs.Reader.four.Goals as goal
 
@@ -13,7 +15,7 @@ returns-then-left-clause-state c =
     let h = c.if-left.ensures in
     let q = c.left.new.self in
     let n = c.number_at-n.ensures ∙ number_there q.s.now q.at h.enough in
-    rw h.same (read_on h (state_of c.store.new.self) _ (rw (le-leb (q.at + 4) (length q.s.now) h.enough, ← n) c.store.ensures.state))
+    rw h.same (read_on h (state_of c.store.new.self) (put_number c.args.sort (four_at q.s.now q.at) (state_of q)) (rw (le-leb (q.at + 4) (length q.s.now) h.enough, ← n) c.store.ensures.state))
 
 pub returns-else-left-clause-state : goal.returns-else-left-clause-state
 returns-else-left-clause-state c =

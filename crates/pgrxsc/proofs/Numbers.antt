@@ -32,14 +32,16 @@ use Rattle.parts.proofs.RowText.{row_numbered}
 use Rattle.parts.specs.Names.{SqlStart, starts_at, not_utf8, ExactStart}
 use Rattle.paths.specs.Repeats.{ExactReport}
 use Rattle.packing.specs.Numbers.{answer_numbers, answer_in, result_in, listed_in, holder_numbers, holder_told, part_numbers, part_told, length_numbers, total_told, length_told, report_numbers, pairs_in, start_numbers, start_told, text_numbers, text_told}
-use Rattle.table.specs.declared.Answer as declared
+use Rattle.table.specs.declared.Counts.{Counts}
+use Rattle.table.specs.declared.Refusal.{Refusal}
+use Rattle.std.specs.Prelude as prelude
 
 -- The numbers of an answer that its number tells, tell that answer
 in_numbers : (a : Answer) → Told a → answer_in (answer_numbers a) ≡ a
 in_numbers a e = ap (λ (b : Bool). record { accepts = b; number = a.number; place = a.place; entities = a.entities; rows = a.rows }) e
 
 -- A reading's answer in numbers, and its table; and what holds of the reading holds of what the numbers tell
-told : (P : Result → Type 0) (numbers : List ℕ) (a : declared.Answer) (table : List ℕ) (r : Result) → numbers ≡ answer_numbers (answer_of a) → result_of a table ≡ r → Told r.answer → P r
+told : (P : Result → Type 0) (numbers : List ℕ) (a : prelude.Result Counts Refusal) (table : List ℕ) (r : Result) → numbers ≡ answer_numbers (answer_of a) → result_of a table ≡ r → Told r.answer → P r
     → (numbers ≡ answer_numbers r.answer) × ((table ≡ r.table) × P (result_in numbers table))
 told P numbers a table r e q t p =
     let n : numbers ≡ answer_numbers r.answer = e ∙ ap (λ (x : Result). answer_numbers x.answer) q in
@@ -48,12 +50,12 @@ told P numbers a table r e q t p =
     (n, (m, subst P (sym k) p))
 
 -- So for a section
-pub section_told : (s lent : List ℕ) → Bytes s → (numbers : List ℕ) (a : declared.Answer) (table : List ℕ) → numbers ≡ answer_numbers (answer_of a) → result_of a table ≡ reading s lent
+pub section_told : (s lent : List ℕ) → Bytes s → (numbers : List ℕ) (a : prelude.Result Counts Refusal) (table : List ℕ) → numbers ≡ answer_numbers (answer_of a) → result_of a table ≡ reading s lent
     → (numbers ≡ answer_numbers (reading s lent).answer) × ((table ≡ (reading s lent).table) × Demand3 s lent (result_in numbers table))
 section_told s lent u numbers a table e q = told (Demand3 s lent) numbers a table (reading s lent) e q (reading_told s u lent) (reading_meets s u lent)
 
 -- And for one value of a layout alone
-pub value_told : (L : Layout) (entities : ℕ) (s lent : List ℕ) → Bytes s → (numbers : List ℕ) (a : declared.Answer) (table : List ℕ) → numbers ≡ answer_numbers (answer_of a) → result_of a table ≡ reading_alone L entities s lent
+pub value_told : (L : Layout) (entities : ℕ) (s lent : List ℕ) → Bytes s → (numbers : List ℕ) (a : prelude.Result Counts Refusal) (table : List ℕ) → numbers ≡ answer_numbers (answer_of a) → result_of a table ≡ reading_alone L entities s lent
     → (numbers ≡ answer_numbers (reading_alone L entities s lent).answer) × ((table ≡ (reading_alone L entities s lent).table) × ExactAlone L entities s lent (result_in numbers table))
 value_told L entities s lent u numbers a table e q = told (ExactAlone L entities s lent) numbers a table (reading_alone L entities s lent) e q (alone_told L entities s u lent) (alone_exact L entities s u lent)
 
@@ -147,7 +149,7 @@ pub record DirectoryTold (s lent : List ℕ) (before : List Record) (numbers tab
   pub list_is : after ≡ (directory s lent before).list
   pub exact : ExactDirectory s lent before (listed_in numbers table after)
 
-pub directory_told : (s lent : List ℕ) (before : List Record) (numbers : List ℕ) (a : declared.Answer) (table : List ℕ) (after : List Record) → numbers ≡ answer_numbers (answer_of a)
+pub directory_told : (s lent : List ℕ) (before : List Record) (numbers : List ℕ) (a : prelude.Result Counts Refusal) (table : List ℕ) (after : List Record) → numbers ≡ answer_numbers (answer_of a)
     → listed_of a table after ≡ directory s lent before → ExactDirectory s lent before (listed_of a table after) → DirectoryTold s lent before numbers table after
 directory_told s lent before numbers a table after e q x =
     let k : answer_in numbers ≡ answer_of a = ap answer_in e ∙ in_numbers (answer_of a) x.numbered in

@@ -30,7 +30,7 @@ ghost use Rattle.pgrxsc.specs.Version.{version};
 ghost use Rattle.packing.specs.Numbers.{answer_numbers, result_in, listed_in, holder_numbers, holder_told, part_numbers, part_told, place_numbers, in_buffer, length_numbers, length_told, report_numbers, pairs_in, total_told, start_numbers, start_told, text_numbers, text_told};
 
 use directory::Record;
-use table::{Answer, Row};
+use table::Row;
 
 // The version of these functions, which include/pgrxsc.h has as PGRXSC_VERSION.
 const VERSION: u32 = 2;
@@ -75,15 +75,7 @@ pub extern "C" fn pgrxsc_read_directory(
     ensures records_after { records.new ≡ (directory bytes.now table.old records.old).list }
     ensures exact_directory { ExactDirectory bytes.now table.old records.old (listed_in answer.new table.new records.new) }
 {
-    let read = directory::decode_directory(bytes, table, records);
-    store(read, answer);
-}
-
-// Stores the answer of a reading, as numbers.
-fn store(read: Answer, answer: &mut [u64; 4])
-    ensures { answer.new ≡ answer_numbers (answer_of read) }
-{
-    *answer = packing::answer_numbers(read);
+    *answer = packing::answer_numbers(directory::decode_directory(bytes, table, records));
 }
 
 // What holds the byte at a position of a section. The third number is 1 if an entity's entry contains it, else 0; the fourth is the

@@ -1,7 +1,0 @@
--- Where the text stands, in numbers.
-use Rattle.packing.specs.Numbers.{part_numbers}
-use mathlib.Core.Path.{ap, ◌∙◌}
-use Rattle.pgrxsc.proofs.pgrxsc_row_text.Goals as goal
-
-pub returns : goal.returns
-returns c = c.part_numbers.ensures ∙ ap part_numbers c.place_row_text.ensures

@@ -9,7 +9,6 @@ ghost use Rattle.text.specs.Kept.{check_text, ExactCheck};
 ghost use Rattle.layout.specs.Entities.{Entity, SqlMapping, FunctionMetadataType};
 ghost use Rattle.layout.specs.Alone.{ExactAlone};
 ghost use Rattle.layout.specs.ReadAlone.{reading_alone};
-ghost use Rattle.table.specs.Answers.{answer_of};
 ghost use Rattle.section.specs.Section.{reading};
 ghost use Rattle.section.specs.Demand3.{Demand3};
 ghost use Rattle.directory.specs.Directory.{directory};

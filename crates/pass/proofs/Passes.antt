@@ -110,7 +110,7 @@ module _ {P : Type 0} {M : Meaning P} where
       after_in b {r} h k f = record {
         lent = f.lent ∙ m.lent ∙ a.lent;
         state = forms.after_in A rows b (M.machine (M.lent p)) _ _ _ _ a.state (m.state ∙ handed M A (M.state q) a.lent) (there ∙ h) k
-          (f.state ∙ handed M (follows rows b) (M.state u) (m.lent ∙ a.lent));
+            (f.state ∙ handed M (follows rows b) (M.state u) (m.lent ∙ a.lent));
       }
 
       pub after_of_two : (b : ℕ) {r : P} → b ≤ n → n < b + 2 → known unknown_tag rows b ≡ fine → known unknown_tag rows (b + 1) ≡ fine
@@ -122,7 +122,7 @@ module _ {P : Type 0} {M : Meaning P} where
       after_wrong {number} {place} {r} b o e h = record {
         lent = h.lent ∙ m.lent ∙ a.lent;
         state = forms.after_wrong A rows (M.machine (M.lent p)) _ _ _ _ a.state (m.state ∙ handed M A (M.state q) a.lent) (rw (sym there) at o)
-          (halted b (m.lent ∙ a.lent) unknown_tag e h);
+            (halted b (m.lent ∙ a.lent) unknown_tag e h);
       }
 
   -- Of n known tags from b on with nothing after them, any

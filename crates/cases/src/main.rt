@@ -699,7 +699,7 @@ fn put_counts(out: &mut Out, first: usize, second: usize) {
 }
 
 fn put_refusal(out: &mut Out, refusal: Refusal) {
-    put_number(out, refusal.kind.number() as u64);
+    put_number(out, refusal.number as u64);
     put_number(out, refusal.place as u64)
 }
 

@@ -21,7 +21,6 @@ use Rattle.raw_bytes.specs.Bytes.{number_or0, same}
 use Rattle.raw_bytes.proofs.Compared.{same_sound}
 use Rattle.std.specs.Prelude.{Result, Ok, Err}
 use Rattle.table.specs.declared.Refusal.{Refusal}
-use Rattle.table.specs.Answers.{number_of}
 use Rattle.reading.specs.State.{ReadState, read_state, new_cursor, finished_at}
 use Rattle.reading.specs.Run.{run}
 use Rattle.framing.specs.Entries.{sentinel_bytes}
@@ -322,8 +321,8 @@ module _ (s : List ℕ) (u : Bytes s) (position : ℕ) where
 
   module _ (small : length s ≤ limit) (at : ℕ) (g : Stage) (seen : Seen) (l : Looked s position at g seen) (f : Result ℕ Refusal) (e : framing_of f ≡ end_of (framing_from s at)) where
     -- 2 to 4
-    pub looked_unframed : (x : Refusal) → f ≡ Err x → (unread (number_of x.kind) x.place ≡ entity_at s position) × ExactHolder s position (unread (number_of x.kind) x.place)
-    looked_unframed x k = both (unread (number_of x.kind) x.place) (refused_at (number_of x.kind) x.place (refused_section s small (number_of x.kind) x.place (l.walks.walked.rest ∙ sym e ∙ ap framing_of k)))
+    pub looked_unframed : (x : Refusal) → f ≡ Err x → (unread x.number x.place ≡ entity_at s position) × ExactHolder s position (unread x.number x.place)
+    looked_unframed x k = both (unread x.number x.place) (refused_at x.number x.place (refused_section s small x.number x.place (l.walks.walked.rest ∙ sym e ∙ ap framing_of k)))
 
     -- 5 to 12, or what was seen
     pub looked_whole : (end : ℕ) → f ≡ Ok end → (h : ByteHolder) → h ≡ held_in g.state seen position → (h ≡ entity_at s position) × ExactHolder s position h

@@ -6,7 +6,6 @@ use Rattle.section.specs.Section.{read_section}
 use Rattle.directory.specs.Directory.{records_from}
 use Rattle.directory.specs.declared.Record.{Record}
 use Rattle.table.specs.declared.Refusal.{Refusal}
-use Rattle.table.specs.Answers.{number_of}
 
 -- A position is in the entry of a record
 abbrev pub contains : Record → (position : ℕ) → Bool
@@ -36,4 +35,4 @@ entity_at s position = holder_in (read_section s) position
 abbrev pub holder_of : Result (Option ℕ) Refusal → ByteHolder
 holder_of (Ok None) = unheld
 holder_of (Ok (Some index)) = holder index
-holder_of (Err refusal) = unread (number_of refusal.kind) refusal.place
+holder_of (Err refusal) = unread refusal.number refusal.place

@@ -51,7 +51,7 @@ fn read_for(section: &[u8], table: &mut [u32], room: usize) -> Result<Counts, Re
 {
     let counts = section::decode_entities(section, table)?;
     if room < counts.entities {
-        return table::refuse(table, RefusalKind::ListTooSmall, 0);
+        return table::refuse(table, RefusalKind::ListTooSmall as u32, 0);
     }
     Ok(counts)
 }
@@ -207,8 +207,11 @@ fn seen_after(seen: Seen, before: Boundary, after: Boundary, position: u64) -> S
 fn holder_in(reader: &Reader, seen: Seen, position: u64) -> Result<Option<usize>, Refusal>
     ensures { holder_of result ≡ held_in (state_of reader.now) seen position }
 {
-    if let Some(kind) = reader.refusal {
-        return Err(Refusal::at(kind, reader.at));
+    if reader.refusal != 0 {
+        return Err(Refusal {
+            number: reader.refusal,
+            place: reader.at,
+        });
     }
     if seen.next <= seen.index {
         return Ok(None);

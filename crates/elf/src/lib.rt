@@ -2,7 +2,7 @@
 #![tactic(auto)]
 
 ghost use Rattle.std.specs.Prelude.{◌+◌, ◌-◌, ◌<◌, ◌≤◌, ◌≡◌, length};
-ghost use Rattle.place.specs.Place.{found_part, part_of, number_in, place_in, bytes_told, number_told, place_told};
+ghost use Rattle.place.specs.Place.{found_part, part_of, number_in, place_in, bytes_told, number_told, place_told, told_as};
 ghost use Rattle.elf.specs.Elf.{little, e_shnum, of_file, section_in, name_table, field_in, sh_offset, sh_size, SectionTables};
 ghost use Rattle.elf.specs.Finding.{ExactFinding};
 ghost use Rattle.elf.specs.Find.{is_elf64, ends_in_file, has_tables, is_name, is_named_at, header_section, first_named, find_section};
@@ -51,6 +51,7 @@ pub fn find_section<'a>(file: &'a [u8], name: &[u8]) -> Result<&'a [u8], Refusal
     ensures result_value { bytes_told result ≡ part_of file.now (find_section file.now name.now) }
     ensures number_after { number_told result ≡ number_in (find_section file.now name.now) }
     ensures place_after { place_told result ≡ place_in (find_section file.now name.now) }
+    ensures case { told_as result (find_section file.now name.now) }
 {
     place::part_at(file, place_section(file, name))
 }
@@ -62,13 +63,13 @@ pub fn place_section(file: &[u8], name: &[u8]) -> Result<Part, Refusal>
     ensures exact_finding { ExactFinding file.now name.now (found_part result) }
 {
     if !is_elf64(file) {
-        return place::no_part(RefusalKind::NotElf64);
+        return place::no_part(RefusalKind::NotElf64 as u32);
     }
     if !has_tables(file) {
-        return place::no_part(RefusalKind::BadSectionHeaders);
+        return place::no_part(RefusalKind::BadSectionHeaders as u32);
     }
     if !is_name(name) {
-        return place::no_part(RefusalKind::NoSuchSection);
+        return place::no_part(RefusalKind::NoSuchSection as u32);
     }
     first_named(file, name_table(file), name)
 }
@@ -144,7 +145,7 @@ fn first_named(file: &[u8], table: &[u8], name: &[u8]) -> Result<Part, Refusal>
             return header_section(file, header);
         }
     }
-    place::no_part(RefusalKind::NoSuchSection)
+    place::no_part(RefusalKind::NoSuchSection as u32)
 }
 
 // Whether the name stands in the table at an offset, and a zero byte of the table follows it. Most names are told apart by the
@@ -169,10 +170,10 @@ fn header_section(file: &[u8], header: usize) -> Result<Part, Refusal>
     ensures { found_part result ≡ header_section file.now header }
 {
     if word(file, header + SH_TYPE) == SHT_NOBITS {
-        return place::no_part(RefusalKind::NoSuchSection);
+        return place::no_part(RefusalKind::NoSuchSection as u32);
     }
     if !ends_in_file(file, header) {
-        return place::no_part(RefusalKind::BadSectionHeaders);
+        return place::no_part(RefusalKind::BadSectionHeaders as u32);
     }
     Ok(section_part(file, header))
 }

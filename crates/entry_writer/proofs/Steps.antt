@@ -7,7 +7,7 @@ use mathlib.Core.Path.{◌≡◌, refl, sym, ap, ◌∙◌}
 use lib.Dec.{leb}
 use lib.ListN.{length, take, drop, length-append, length-drop}
 use lib.Seq.{length-take-le}
-use borrow.Author.Tests.{leb-true, leb-false, lt-leb, le-leb}
+use borrow.Author.Tests.{leb-true, leb-false}
 use Rattle.layout.specs.Layout.{Sort, Kind, Tag, Flag, Number, Count, string}
 use Rattle.layout.specs.Written.{text_sort, four, plain_bytes, leaf_bytes, offset_at, value_at}
 use Rattle.layout.specs.Reading.{Outcome, ok, refuse}
@@ -40,23 +40,18 @@ module _ (rows : List ℕ) (i sort : ℕ) {t : Bool} (e : t ≡ is_row rows i so
   pub row_value : {row : Row} → row ≡ row_of rows i → row.value ≡ value_at rows i
   row_value g = value_there rows i row_inside g
 
--- A text row is beyond the lent bytes
+-- A text row is within the lent bytes, or not
 module _ (rows text : List ℕ) (i : ℕ) {t : Bool} (e : t ≡ is_row rows i text_sort) (h : t ≡ true) {row : Row} (g : row ≡ row_of rows i) where
-  pub text_beyond : length text < row.offset + row.value → stays_at rows text i ≡ false
-  text_beyond k = rw (← row_offset rows i text_sort e h g, ← row_value rows i text_sort e h g, lt-leb (row.offset + row.value) (length text) k)
+  pub text_stays : {s : Bool} → s ≡ leb (row.offset + row.value) (length text) → stays_at rows text i ≡ s
+  text_stays b = rw (← row_offset rows i text_sort e h g, ← row_value rows i text_sort e h g) (sym b)
 
-  -- Or within them
-  module _ (k : row.offset + row.value ≤ length text) where
-    pub text_within : stays_at rows text i ≡ true
-    text_within = rw (← row_offset rows i text_sort e h g, ← row_value rows i text_sort e h g, le-leb (row.offset + row.value) (length text) k)
+  pub text_lent : lent_at rows text i ≡ take (row.offset + row.value - row.offset) (drop row.offset text)
+  text_lent =
+      let n : row.value ≡ row.offset + row.value - row.offset = omega arith in
+      rw (← row_offset rows i text_sort e h g, ← row_value rows i text_sort e h g) (ap (λ (j : ℕ). take j (drop row.offset text)) n)
 
-    pub text_lent : {bytes : List ℕ} → bytes ≡ take (row.offset + row.value - row.offset) (drop row.offset text) → lent_at rows text i ≡ bytes
-    text_lent b =
-        let n : row.value ≡ row.offset + row.value - row.offset = omega arith in
-        rw (← row_offset rows i text_sort e h g, ← row_value rows i text_sort e h g, b) (ap (λ (j : ℕ). take j (drop row.offset text)) n)
-
-    pub text_length : {bytes : List ℕ} → bytes ≡ take (row.offset + row.value - row.offset) (drop row.offset text) → length bytes ≡ row.value
-    text_length b = ap length b ∙ length-take-le _ (drop row.offset text) (omega (arith, length-drop row.offset text)) ∙ omega arith
+  pub text_length : row.offset + row.value ≤ length text → length (take (row.offset + row.value - row.offset) (drop row.offset text)) ≡ row.value
+  text_length k = length-take-le _ (drop row.offset text) (omega (arith, length-drop row.offset text)) ∙ omega arith
 
 pub text_size : (bytes : List ℕ) → length (leaf_bytes (string bytes)) ≡ 4 + length bytes
 text_size bytes = length-append (four (length bytes)) bytes ∙ omega arith

@@ -1,14 +1,14 @@
 -- What an entry writer means, as a pass over the leaves of a layout.
-use Rattle.std.specs.Prelude.{ℕ, ◌+◌, ◌≡◌, cond, List}
+use Rattle.std.specs.Prelude.{ℕ, ◌+◌, ◌≡◌, List}
 use Rattle.table.specs.Table.{row_of}
 use Rattle.pass.specs.Pass.{Meaning}
-use Rattle.writing.specs.State.{WriteState}
+use Rattle.writing.specs.State.{WriteState, stopped_once}
 use Rattle.writing.specs.Run.{writer}
 use Rattle.entry_writer.specs.declared.EntryWriter.{EntryWriter}
 
 -- Its state
 abbrev pub state_of : EntryWriter → WriteState
-state_of w = record { row = w.row; pos = w.pos; value = w.value; refusal = cond w.refused 14 0; bad = cond w.bad 1 0 }
+state_of w = record { row = w.row; pos = w.pos; value = w.value; refusal = w.refusal; bad = w.bad }
 
 -- What it is lent: the rows and the text bytes
 abbrev pub lent_of : EntryWriter → List ℕ × List ℕ
@@ -24,5 +24,6 @@ writer_meaning = record {
   machine = λ x. writer x.0 x.1;
   place = λ st. st.row;
   refused = λ st. st.refusal ≡ 0 → ⊥;
+  halted = λ number place st. stopped_once st;
   seen = λ x begin index. (row_of x.0 (begin + index)).value;
 }

@@ -18,17 +18,17 @@ use pass::Pass;
 use table::{Refusal, RefusalKind};
 
 // The state of a writing: the rows and the text bytes that it is lent; `row`, the next row; `pos`, the length so far, which stops
-// just above the limit; `value`, the value of the row before; whether it is refused; and whether a text row was bad. A refused
+// just above the limit; `value`, the value of the row before; `refusal`, 0 or 14; `bad`, 1 if a text row was bad, else 0. A refused
 // writer takes no more rows.
-#[derive(Drop)]
+#[derive(Clone, Copy)]
 pub struct EntryWriter<'a> {
-    rows: &'a [u32],
-    text: &'a [u8],
-    row: usize,
-    pos: usize,
-    value: u32,
-    refused: bool,
-    bad: bool,
+    pub rows: &'a [u32],
+    pub text: &'a [u8],
+    pub row: usize,
+    pub pos: usize,
+    pub value: u32,
+    pub refusal: u32,
+    pub bad: usize,
 }
 
 impl<'a> EntryWriter<'a> {
@@ -43,8 +43,23 @@ impl<'a> EntryWriter<'a> {
             row: 0,
             pos: 0,
             value: 0,
-            refused: false,
-            bad: false,
+            refusal: 0,
+            bad: 0,
+        }
+    }
+
+    // The same writer, field by field.
+    pub fn copy(self) -> EntryWriter<'a>
+        ensures { result ≡ self.entry }
+    {
+        EntryWriter {
+            rows: self.rows,
+            text: self.text,
+            row: self.row,
+            pos: self.pos,
+            value: self.value,
+            refusal: self.refusal,
+            bad: self.bad,
         }
     }
 
@@ -53,7 +68,9 @@ impl<'a> EntryWriter<'a> {
         ensures lent { lent_of self.new ≡ lent_of self.old }
         ensures state { state_of self.new ≡ stopped_once (state_of self.old) }
     {
-        self.refused = true;
+        if self.refusal == 0 {
+            self.refusal = RefusalKind::BadRows as u32;
+        }
     }
 
     // A row was taken; its value takes `size` bytes.
@@ -74,7 +91,7 @@ impl<'a> EntryWriter<'a> {
         ensures state { state_of self.new ≡ spoiled (state_of self.old) }
     {
         self.row += 1;
-        self.bad = true;
+        self.bad = 1;
     }
 
     // A row of a given sort with a value below a bound, which takes `size` bytes.
@@ -82,7 +99,7 @@ impl<'a> EntryWriter<'a> {
         ensures lent { lent_of self.new ≡ lent_of self.old }
         ensures state { state_of self.new ≡ unless_refused (take_number size (number_from self.old.rows.now sort bound self.old.row) (state_of self.old)) (state_of self.old) }
     {
-        if self.refused {
+        if self.refusal != 0 {
             return;
         }
         if !is_row(self.rows, self.row, sort) {
@@ -109,10 +126,10 @@ impl<'a> EntryWriter<'a> {
     {
         let numbers_left = self.rows.len() % ROW_WIDTH != 0;
         let rows_left = self.row != self.rows.len() / ROW_WIDTH;
-        if self.refused || numbers_left || rows_left {
+        if self.refusal != 0 || numbers_left || rows_left {
             return Err(Refusal::at(RefusalKind::BadRows, 0));
         }
-        if self.bad {
+        if self.bad != 0 {
             return Err(Refusal::at(RefusalKind::BadTextRow, 0));
         }
         if LIMIT < self.pos {
@@ -151,7 +168,7 @@ impl<'a> Pass for EntryWriter<'a> {
 
     // Its length, then its bytes.
     fn str(&mut self) {
-        if self.refused {
+        if self.refusal != 0 {
             return;
         }
         if !is_row(self.rows, self.row, layout::SORT_TEXT) {
@@ -159,13 +176,14 @@ impl<'a> Pass for EntryWriter<'a> {
         }
         let row = table::row_at(self.rows, self.row);
         let start = row.offset as usize;
-        let Some(bytes) = self.text.get(start..start + row.value as usize) else {
-            return self.spoiled(); // beyond the lent bytes
-        };
-        if !text::is_utf8(bytes) {
+        let size = row.value as usize;
+        if !stays(self.text, start, size) {
             return self.spoiled();
         }
-        self.past(row.value, 4 + bytes.len());
+        if !text::is_utf8(&self.text[start..start + size]) {
+            return self.spoiled();
+        }
+        self.past(row.value, 4 + size);
     }
 
     fn place(&self) -> usize {
@@ -182,7 +200,7 @@ impl<'a> Pass for EntryWriter<'a> {
     }
 
     fn is_refused(&self) -> bool {
-        self.refused
+        self.refusal != 0
     }
 
     ghost stays = { record { over = λ x L st h. run_refused L x.0 x.1 st h; halted = λ x f begin st h. halt_refused st h } };
@@ -213,4 +231,14 @@ fn is_row(rows: &[u32], i: usize, sort: u32) -> bool
     ensures { result ≡ is_row rows.now i sort }
 {
     i < rows.len() / ROW_WIDTH && table::row_at(rows, i).sort == sort
+}
+
+// Whether a text is within the lent bytes.
+pub fn stays(text: &[u8], start: usize, size: usize) -> bool
+    ensures { result ≡ leb (start + size) (length text.now) }
+{
+    if text.len() < start {
+        return false;
+    }
+    size <= text.len() - start
 }

@@ -36,18 +36,22 @@ impl<const N: usize> FixedText<N> {
     pub fn push(&mut self, byte: u8)
         ensures { self.new ≡ take N (self.old ++ byte ∷ []) }
     {
-        self.extend_from_slice(&[byte])
+        if self.len < N {
+            self.bytes[self.len] = byte;
+            self.len += 1;
+        }
     }
 
     // Adds bytes at the end, as far as there is room.
     pub fn extend_from_slice(&mut self, more: &[u8])
         ensures { self.new ≡ take N (self.old ++ more.now) }
     {
-        let added = more.len().min(N - self.len);
-        let end = self.len + added;
-        let bytes = &mut self.bytes[..];
-        bytes[self.len..end].copy_from_slice(&more[..added]);
-        self.len = end;
+        if self.len == N {
+            return;
+        }
+        for byte in more {
+            self.push(*byte);
+        }
     }
 
     // The text.

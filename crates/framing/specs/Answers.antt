@@ -3,14 +3,13 @@ use Rattle.std.specs.Prelude.{ℕ, ◌≤◌, List, ◌↔◌, ◌≡◌, leb, l
 use Rattle.layout.specs.Reading.{Outcome, ok, refuse, ◌>>=◌, need}
 use Rattle.layout.specs.Answers.{limit}
 use Rattle.table.specs.declared.Refusal.{Refusal}
-use Rattle.table.specs.Answers.{number_of}
 use Rattle.framing.specs.Framing.{Parts, framing}
 use Rattle.framing.specs.Refusals.{FramingRefusal, WholeFraming}
 
 -- The meaning of each case: where the padding begins, or the number and place
 abbrev pub framing_of : Result ℕ Refusal → Outcome ℕ (Unit {0})
 framing_of (Ok end) = ok tt end
-framing_of (Err refusal) = refuse (number_of refusal.kind) refusal.place
+framing_of (Err refusal) = refuse refusal.number refusal.place
 
 -- Where a framing ends, without the parts it finds
 abbrev pub end_of : Parts → Outcome ℕ (Unit {0})

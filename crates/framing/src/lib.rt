@@ -11,8 +11,15 @@ ghost use Rattle.framing.specs.Places.{entry_end, sentinel_at, past_sentinels};
 use layout::LIMIT;
 use table::{Refusal, RefusalKind};
 
-// The sentinel's payload.
-const SENTINEL: &[u8] = b"\x00\x04\x00\x00\x00pgrx";
+// The sentinel's payload, 00 04 00 00 00 70 67 72 78, as two numbers and a byte.
+const SENTINEL_FIRST: u32 = 0x0000_0400;
+
+const SENTINEL_SECOND: u32 = 0x7267_7000;
+
+const SENTINEL_LAST: u8 = 0x78;
+
+// Its length.
+const SENTINEL_SIZE: usize = 9;
 
 // How many bytes are tested for zeros at a time.
 const BLOCK: usize = 64;
@@ -95,7 +102,16 @@ pub fn is_sentinel(payload: &[u8]) -> bool
     ensures value { result ≡ same payload.now sentinel_bytes }
     ensures variant { (result ≡ true) ↔ (payload.now ≡ sentinel_bytes) }
 {
-    payload == SENTINEL
+    if payload.len() != SENTINEL_SIZE {
+        return false;
+    }
+    if raw_bytes::number_at(payload, 0) != SENTINEL_FIRST {
+        return false;
+    }
+    if raw_bytes::number_at(payload, 4) != SENTINEL_SECOND {
+        return false;
+    }
+    payload[8] == SENTINEL_LAST
 }
 
 // Whether the sentinel's entry is at a place.

@@ -8,14 +8,10 @@ use lib.ListN.{length, take, drop, length-drop}
 use lib.Seq.{length-take-le}
 use lib.Dec.{eqb, leb}
 use borrow.Author.Tests.{eq-eqb, ne_eqb, lt-leb, le-leb, eqb-true, eqb-false, leb-true}
-use Rattle.std.specs.Prelude.{Option, Some, None, ◌↔◌}
-use Rattle.std.specs.Option.{is_some}
+use Rattle.std.specs.Prelude.{◌↔◌}
 use Rattle.std.proofs.lemmas.Bool.{false≢true}
-use Rattle.table.specs.declared.RefusalKind.{RefusalKind}
-use Rattle.table.specs.declared.RefusalKind.TheVariants.{InputTooLong, PartialLength, ZeroLength, EntryTooLong, Truncated, BadFlag, NotUtf8, UnknownKind, UnknownTag, NoSqlText, DeclaredError, TrailingBytes, TableTooSmall, BadRows, BadTextRow, OutputTooLong, BadBufferSize, NotElf64, BadSectionHeaders, NoSuchSection, ListTooSmall}
-use Rattle.table.specs.Answers.{number_of}
 use Rattle.leaf.specs.declared.Reader.{Reader}
-use Rattle.leaf.specs.Reader.{refusal_number, cursor_of, state_of}
+use Rattle.leaf.specs.Reader.{cursor_of, state_of}
 use Rattle.layout.specs.Layout.{Sort, plain, string}
 use Rattle.layout.specs.Written.{sort_number}
 use Rattle.layout.specs.Reading.{Outcome, ok, refuse, ◌>>=◌, utf8, number_at, text_at}
@@ -44,39 +40,6 @@ module _ (s table : List ℕ) (c : Cursor) (out : ReadState) where
     unfolding guarded
     goes_on h r e = rw (eq-eqb _ _ z, le-leb (length s) limit h) e
 
--- The number of a refusal is not 0
-pub number_not_0 : (kind : RefusalKind) → number_of kind ≡ 0 → ⊥
-number_not_0 InputTooLong e = omega arith
-number_not_0 PartialLength e = omega arith
-number_not_0 ZeroLength e = omega arith
-number_not_0 EntryTooLong e = omega arith
-number_not_0 Truncated e = omega arith
-number_not_0 BadFlag e = omega arith
-number_not_0 NotUtf8 e = omega arith
-number_not_0 UnknownKind e = omega arith
-number_not_0 UnknownTag e = omega arith
-number_not_0 NoSqlText e = omega arith
-number_not_0 DeclaredError e = omega arith
-number_not_0 TrailingBytes e = omega arith
-number_not_0 TableTooSmall e = omega arith
-number_not_0 BadRows e = omega arith
-number_not_0 BadTextRow e = omega arith
-number_not_0 OutputTooLong e = omega arith
-number_not_0 BadBufferSize e = omega arith
-number_not_0 NotElf64 e = omega arith
-number_not_0 BadSectionHeaders e = omega arith
-number_not_0 NoSuchSection e = omega arith
-number_not_0 ListTooSmall e = omega arith
-
--- Whether a reader is refused
-pub some_number : (o : Option RefusalKind) → is_some o ≡ true → refusal_number o ≡ 0 → ⊥
-some_number (Some kind) e z = number_not_0 kind z
-some_number None e z = false≢true e
-
-pub none_number : (o : Option RefusalKind) → is_some o ≡ false → refusal_number o ≡ 0
-none_number (Some kind) e = absurd (false≢true (sym e))
-none_number None e = refl
-
 module _ {n : ℕ} {p q : Reader} where
   -- With n bytes left, the reading goes on
   pub read_on : Enough n p q → (r out : ReadState) → r ≡ out → r ≡ guarded q.s.now out (state_of q)
@@ -85,9 +48,9 @@ module _ {n : ℕ} {p q : Reader} where
   -- With fewer, it does not
   pub not_on : Short n p q → (out : ReadState) → (length p.s.now < p.at + n → out ≡ stop 5 p.at (state_of p)) → state_of q ≡ guarded p.s.now out (state_of p)
   unfolding guarded
-  not_on h out e = h.state ∙ go (eqb (refusal_number p.refusal) 0) (leb (length p.s.now) limit) refl refl
+  not_on h out e = h.state ∙ go (eqb (p.refusal) 0) (leb (length p.s.now) limit) refl refl
     where
-      go : (a b : Bool) → eqb (refusal_number p.refusal) 0 ≡ a → leb (length p.s.now) limit ≡ b
+      go : (a b : Bool) → eqb (p.refusal) 0 ≡ a → leb (length p.s.now) limit ≡ b
           → cond a (cond b (stop 5 p.at (state_of p)) (stop 1 0 (state_of p))) (state_of p) ≡ cond a (cond b out (stop 1 0 (state_of p))) (state_of p)
       go true true u v = sym (e (h.short (eqb-true _ _ u) (leb-true _ _ v)))
       go true false u v = refl
@@ -113,9 +76,9 @@ module _ (s : List ℕ) (st : ReadState) (n : ℕ) (e : n ≡ number_at s st.cur
         rw (le-leb (at + 4) (length s) h, ← e, le-leb (at + 4 + n) (length s) k, ← q, u, l)
 
 -- A reader is not refused if its test says so
-pub not_refused : {b : Bool} (r : Reader) → (b ≡ true) ↔ (refusal_number r.refusal ≡ 0 → ⊥) → b ≡ false → refusal_number r.refusal ≡ 0
-not_refused r h e = go (eqb (refusal_number r.refusal) 0) refl
+pub not_refused : {b : Bool} (r : Reader) → (b ≡ true) ↔ (r.refusal ≡ 0 → ⊥) → b ≡ false → r.refusal ≡ 0
+not_refused r h e = go (eqb (r.refusal) 0) refl
   where
-    go : (a : Bool) → eqb (refusal_number r.refusal) 0 ≡ a → refusal_number r.refusal ≡ 0
+    go : (a : Bool) → eqb (r.refusal) 0 ≡ a → r.refusal ≡ 0
     go true k = eqb-true _ _ k
     go false k = absurd (false≢true (sym e ∙ h.1 (eqb-false _ _ k)))

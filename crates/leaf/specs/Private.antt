@@ -4,7 +4,7 @@ use Rattle.layout.specs.Reading.{Outcome, ok, refuse}
 use Rattle.layout.specs.Answers.{limit}
 use Rattle.leaf.specs.declared.Reader.{Reader}
 use Rattle.reading.specs.State.{ReadState, stop, put, guarded}
-use Rattle.leaf.specs.Reader.{refusal_number, state_of, lent_of}
+use Rattle.leaf.specs.Reader.{state_of, lent_of}
 
 -- A number that was read, stored as a leaf with a sort's number
 abbrev pub put_number : (sort : ℕ) → Outcome ℕ ℕ → ReadState → ReadState
@@ -14,7 +14,7 @@ put_number sort (refuse n p) st = stop n p st
 -- n bytes are left, and nothing changed
 pub record Enough (n : ℕ) (p q : Reader) : Type 0 where
   pub same : p ≡ q
-  pub going : refusal_number q.refusal ≡ 0
+  pub going : q.refusal ≡ 0
   pub small : length q.s.now ≤ limit
   pub enough : q.at + n ≤ length q.s.now
 
@@ -22,7 +22,7 @@ pub record Enough (n : ℕ) (p q : Reader) : Type 0 where
 pub record Short (n : ℕ) (p q : Reader) : Type 0 where
   pub lent : lent_of q ≡ lent_of p
   pub state : state_of q ≡ guarded p.s.now (stop 5 p.at (state_of p)) (state_of p)
-  pub short : refusal_number p.refusal ≡ 0 → length p.s.now ≤ limit → length p.s.now < p.at + n
+  pub short : p.refusal ≡ 0 → length p.s.now ≤ limit → length p.s.now < p.at + n
 
 -- A reader's answer to whether n bytes are left
 abbrev pub Left : Bool → (n : ℕ) → (p q : Reader) → Type 0

@@ -1,21 +1,19 @@
 -- What a reader means, as a pass over the leaves of a layout.
-use Rattle.std.specs.Prelude.{ℕ, ◌+◌, ◌≡◌, List, slice_index, Option, None, Some}
+use Rattle.std.specs.Prelude.{ℕ, ◌+◌, ◌≡◌, List, slice_index}
 use Rattle.std.specs.Borrow.{GName}
-use Rattle.table.specs.declared.RefusalKind.{RefusalKind}
-use Rattle.table.specs.Answers.{number_of}
 use Rattle.pass.specs.Pass.{Meaning}
 use Rattle.leaf.specs.declared.Reader.{Reader}
-use Rattle.reading.specs.State.{Cursor, ReadState, read_state}
+use Rattle.leaf.specs.declared.Cursor as declared
+use Rattle.reading.specs.State.{Cursor, ReadState, read_state, refused_once}
 use Rattle.reading.specs.Run.{reader}
 
--- 0, or the number of the refusal
-abbrev pub refusal_number : Option RefusalKind → ℕ
-refusal_number None = 0
-refusal_number (Some kind) = number_of kind
+-- A cursor that was kept
+abbrev pub kept : declared.Cursor → Cursor
+kept c = record { at = c.at; rows = c.rows; refusal = c.refusal; value = c.value }
 
 -- Its cursor
 abbrev pub cursor_of : Reader → Cursor
-cursor_of r = record { at = r.at; rows = r.rows; refusal = refusal_number r.refusal; value = r.value }
+cursor_of r = record { at = r.at; rows = r.rows; refusal = r.refusal; value = r.value }
 
 -- Its cursor with its table
 abbrev pub state_of : Reader → ReadState
@@ -35,5 +33,6 @@ reader_meaning = record {
   machine = λ x. reader x.0;
   place = λ st. st.cursor.at;
   refused = λ st. st.cursor.refusal ≡ 0 → ⊥;
+  halted = λ number place st. read_state (refused_once number place st.cursor) st.table;
   seen = λ x begin index. slice_index x.0 (begin + index);
 }

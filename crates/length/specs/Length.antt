@@ -4,12 +4,12 @@ use Rattle.std.specs.Prelude as std
 use Rattle.std.proofs.Math.Option.{Option, none, some}
 use Rattle.layout.specs.Answers.{limit}
 use Rattle.table.specs.declared.Refusal.{Refusal}
-use Rattle.table.specs.Answers.{Total, counted, uncounted, number_of}
+use Rattle.table.specs.Answers.{Total, counted, uncounted}
 
 -- The meaning of each case: the count, or the number and place
 abbrev pub length_of : Result ℕ Refusal → Total
 length_of (Ok count) = counted count
-length_of (Err refusal) = uncounted (number_of refusal.kind) refusal.place
+length_of (Err refusal) = uncounted refusal.number refusal.place
 
 -- 16: the written length is above the limit
 abbrev pub too_long : Total

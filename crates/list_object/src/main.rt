@@ -2,6 +2,9 @@
 // answers.
 #![tactic(auto)]
 
+ghost use Rattle.std.specs.Prelude.{◌≡◌, length};
+ghost use Rattle.listing.specs.Listing.{most_listed};
+
 use std::io;
 use streams::read_full;
 
@@ -12,7 +15,7 @@ const INPUT_SPACE: usize = object::MOST_OBJECT + 1;
 fn main(rt: HostRuntime) -> io::Result<()> {
     let mut input = input_space();
     let n = read_full(&mut rt.stdin(), &mut input)?;
-    let mut out = [0; listing::MOST_LISTED];
+    let mut out = output_space();
     let len = object::object_listing(&input[..n], b".pgrxsc", &mut out);
     rt.write_all(&out[..len])
 }
@@ -20,4 +23,11 @@ fn main(rt: HostRuntime) -> io::Result<()> {
 // The check does not look into so many bytes.
 fn input_space() -> [u8; INPUT_SPACE] {
     [0; INPUT_SPACE]
+}
+
+// Space for the longest listing.
+fn output_space() -> [u8; listing::MOST_LISTED]
+    ensures { length result ≡ most_listed }
+{
+    [0; listing::MOST_LISTED]
 }

@@ -4,7 +4,6 @@
 ghost use Rattle.std.specs.Prelude.{[], ◌∷◌, ◌≡◌, ◌+◌, ◌*◌, ◌^◌, ◌≤◌, ◌<◌, length, take};
 ghost use Rattle.layout.specs.Written.{row_width};
 ghost use Rattle.layout.specs.Answers.{accepted, whole_rows};
-ghost use Rattle.table.specs.Answers.{number_of};
 ghost use Rattle.decimal.specs.Decimal.{decimal};
 ghost use Rattle.listing.specs.Listing.{lent_rows, lent_table, line, long_line, refusal_line, lines, listing, most_listed, at_start};
 ghost use Rattle.listing.specs.Private.{most_line, stored};
@@ -55,11 +54,11 @@ pub fn list_long(out: &mut [u8]) -> usize
 
 // The same with the line of a refusal.
 pub fn list_refusal(refusal: Refusal, out: &mut [u8]) -> usize
-    ensures value { result ≡ length (refusal_line (number_of refusal.kind) refusal.place) }
-    ensures out_after { out.new ≡ at_start (refusal_line (number_of refusal.kind) refusal.place) out.old }
+    ensures value { result ≡ length (refusal_line refusal.number refusal.place) }
+    ensures out_after { out.new ≡ at_start (refusal_line refusal.number refusal.place) out.old }
     ensures upper_bound { result ≤ most_listed }
 {
-    let number = u64::from(refusal.kind.number());
+    let number = u64::from(refusal.number);
     let line = line(b"refuse", number, refusal.place as u64);
     put(out, 0, line.as_slice())
 }

@@ -13,6 +13,8 @@ use leaf::Reader;
 use pass::Pass;
 use table::{Counts, Refusal, RefusalKind};
 
+// This and the next two are inlined, for the loop over a table's mappings.
+#[inline(always)]
 pub fn sql_mapping<P: Pass>(p: &mut P)
     ensures { Runs P.meaning SqlMapping p.old p.new }
 {
@@ -26,6 +28,7 @@ pub fn sql_mapping<P: Pass>(p: &mut P)
     }
 }
 
+#[inline(always)]
 pub fn sql_array_mapping<P: Pass>(p: &mut P)
     ensures { Runs P.meaning SqlArrayMapping p.old p.new }
 {
@@ -39,6 +42,7 @@ pub fn sql_array_mapping<P: Pass>(p: &mut P)
 }
 
 // A Numeric mapping: each number is there even if its flag is 0.
+#[inline(always)]
 pub fn numeric<P: Pass>(p: &mut P)
     ensures { Runs P.meaning Numeric p.old p.new }
 {

@@ -18,7 +18,7 @@ pub fn decode_object(file: &[u8], name: &[u8], table: &mut [u32]) -> Result<Coun
 {
     match elf::place_section(file, name) {
         Ok(part) => section::decode_entities(part.of(file), table),
-        Err(refusal) => table::refuse(table, refusal.kind, refusal.place),
+        Err(refusal) => table::refuse(table, refusal.number, refusal.place),
     }
 }
 

@@ -3,7 +3,7 @@
 
 ghost use Rattle.std.specs.Prelude.{◌≡◌, [], ◌∷◌, MatchResult, MatchOption};
 ghost use Rattle.text.specs.Kept.{text_answer};
-ghost use Rattle.table.specs.Answers.{answer_of, number_of};
+ghost use Rattle.table.specs.Answers.{answer_of};
 ghost use Rattle.directory.specs.Holder.{holder_of};
 ghost use Rattle.place.specs.Place.{found_part};
 ghost use Rattle.parts.specs.Names.{start_of};
@@ -25,7 +25,7 @@ pub fn answer_numbers(answer: Result<Counts, Refusal>) -> [u64; 4]
 
 // Two numbers that are answered, or the refusal.
 fn told(answer: Result<(u64, u64), Refusal>) -> [u64; 4]
-    ensures { MatchResult answer (λ pair. result ≡ 0 ∷ 0 ∷ pair.0 ∷ pair.1 ∷ []) (λ refusal. result ≡ refusal_numbers (number_of refusal.kind) refusal.place) }
+    ensures { MatchResult answer (λ pair. result ≡ 0 ∷ 0 ∷ pair.0 ∷ pair.1 ∷ []) (λ refusal. result ≡ refusal_numbers refusal.number refusal.place) }
 {
     match answer {
         Ok((first, second)) => [0, 0, first, second],
@@ -35,9 +35,9 @@ fn told(answer: Result<(u64, u64), Refusal>) -> [u64; 4]
 
 // A refusal, as an answer.
 pub fn refusal_numbers(refusal: Refusal) -> [u64; 4]
-    ensures { result ≡ refusal_numbers (number_of refusal.kind) refusal.place }
+    ensures { result ≡ refusal_numbers refusal.number refusal.place }
 {
-    [refusal.kind.number() as u64, refusal.place as u64, 0, 0]
+    [refusal.number as u64, refusal.place as u64, 0, 0]
 }
 
 // What holds a byte, as an answer.

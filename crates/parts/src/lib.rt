@@ -3,7 +3,7 @@
 #![tactic(auto)]
 
 ghost use Rattle.std.specs.Prelude.{List, ◌++◌, ◌≡◌, ℕ, ◌+◌, ◌≤◌, length};
-ghost use Rattle.place.specs.Place.{found_part, part_of, number_in, place_in, bytes_told, number_told, place_told};
+ghost use Rattle.place.specs.Place.{found_part, part_of, number_in, place_in, bytes_told, number_told, place_told, told_as};
 ghost use Rattle.parts.specs.Parts.{row_text, kept_name, kept_name_in, ExactKeptName, sql_name, sql_name_in};
 ghost use Rattle.parts.specs.Names.{name_start, ExactStart, unbegun, most_held, held, walked_over, StandsAfter, walk_answer, standing, start_of};
 ghost use Rattle.parts.specs.Private.{Untested, end_after};
@@ -31,7 +31,7 @@ pub fn place_row_text(section: &[u8], row: Row) -> Result<Part, Refusal>
     if text::is_utf8(part.of(section)) {
         return Ok(part);
     }
-    place::no_part(RefusalKind::BadTextRow)
+    place::no_part(RefusalKind::BadTextRow as u32)
 }
 
 // The same, with nothing known of the bytes there.
@@ -39,12 +39,12 @@ fn place_row_bytes(section: &[u8], row: Row) -> Result<Part, Refusal>
     ensures { Untested section.now row (found_part result) }
 {
     if LIMIT < section.len() {
-        return place::no_part(RefusalKind::InputTooLong);
+        return place::no_part(RefusalKind::InputTooLong as u32);
     }
     let start = row.offset as usize;
     let len = row.value as usize;
     if row.sort != layout::SORT_TEXT || section.len() < start || section.len() - start < len {
-        return place::no_part(RefusalKind::BadTextRow);
+        return place::no_part(RefusalKind::BadTextRow as u32);
     }
     Ok(Part { start, len })
 }
@@ -54,6 +54,7 @@ pub fn row_text<'a>(section: &'a [u8], row: Row) -> Result<&'a [u8], Refusal>
     ensures result_value { bytes_told result ≡ part_of section.now (row_text section.now row) }
     ensures number_after { number_told result ≡ number_in (row_text section.now row) }
     ensures place_after { place_told result ≡ place_in (row_text section.now row) }
+    ensures case { told_as result (row_text section.now row) }
 {
     place::part_at(section, place_row_text(section, row))
 }
@@ -65,7 +66,7 @@ pub fn place_kept_name(section: &[u8], row: Row) -> Result<Part, Refusal>
 {
     let part = place_row_bytes(section, row)?;
     let Some(len) = text::check_text(part.of(section)) else {
-        return place::no_part(RefusalKind::BadTextRow);
+        return place::no_part(RefusalKind::BadTextRow as u32);
     };
     Ok(Part {
         start: part.start,
@@ -78,6 +79,7 @@ pub fn kept_name<'a>(section: &'a [u8], row: Row) -> Result<&'a [u8], Refusal>
     ensures result_value { bytes_told result ≡ kept_name (part_of section.now (row_text section.now row)) }
     ensures number_after { number_told result ≡ number_in (row_text section.now row) }
     ensures place_after { place_told result ≡ place_in (row_text section.now row) }
+    ensures case { told_as result (row_text section.now row) }
 {
     place::part_at(section, place_kept_name(section, row))
 }
@@ -88,7 +90,7 @@ pub fn place_sql_name(section: &[u8], row: Row) -> Result<Part, Refusal>
 {
     let part = place_row_bytes(section, row)?;
     let Some(before) = name_start(part.of(section)) else {
-        return place::no_part(RefusalKind::BadTextRow);
+        return place::no_part(RefusalKind::BadTextRow as u32);
     };
     Ok(Part {
         start: part.start + before,
@@ -101,6 +103,7 @@ pub fn sql_name<'a>(section: &'a [u8], row: Row) -> Result<&'a [u8], Refusal>
     ensures result_value { bytes_told result ≡ sql_name (part_of section.now (row_text section.now row)) }
     ensures number_after { number_told result ≡ number_in (row_text section.now row) }
     ensures place_after { place_told result ≡ place_in (row_text section.now row) }
+    ensures case { told_as result (row_text section.now row) }
 {
     place::part_at(section, place_sql_name(section, row))
 }

@@ -5,7 +5,8 @@ use Rattle.layout.specs.Machine.{Machine, drive}
 use Rattle.layout.specs.Entities.{ArgumentSql, result_verdict, as_or_numeric}
 
 -- Its states; what it is lent, which stays as it is; the machine that it runs on what it is lent; the place of a state, where the
--- next leaf begins; whether a state is refused; and the values of tags that were passed, each by its distance from a place
+-- next leaf begins; whether a state is refused; a state after a refusal, by its number, for what began at a place; and the values
+-- of tags that were passed, each by its distance from a place
 pub record Meaning (P : Type 0) : Type 1 where
   pub State : Type 0
   pub Lent : Type 0
@@ -14,6 +15,7 @@ pub record Meaning (P : Type 0) : Type 1 where
   pub machine : Lent → Machine State
   pub place : State → ℕ
   pub refused : State → Type 0
+  pub halted : (number place : ℕ) → State → State
   pub seen : Lent → (place index : ℕ) → ℕ
 
 module _ {P : Type 0} (M : Meaning P) where
@@ -29,6 +31,7 @@ module _ {P : Type 0} (M : Meaning P) where
   -- A refusal by its number, for what began at a place
   pub record Halts (number place : ℕ) (p q : P) : Type 0 where
     pub lent : M.lent q ≡ M.lent p
+    pub whole : M.state q ≡ M.halted number place (M.state p)
     pub state : (f : Fault) (begin : M.State) → refusal_of f ≡ number → M.place begin ≡ place → M.state q ≡ (M.machine (M.lent p)).halt f begin (M.state p)
 
   -- A state that is refused does not change

@@ -5,7 +5,7 @@
 ghost use Rattle.std.specs.Prelude.{◌≡◌, ◌↔◌, true, ltb, ℕ};
 ghost use Rattle.std.specs.Borrow.{MutBor};
 ghost use Rattle.layout.specs.Layout.{Layout, Kind, Tag, Flag, Number, Count, one, text};
-ghost use Rattle.layout.specs.Forms.{may, list};
+ghost use Rattle.layout.specs.Forms.{may, times, list};
 ghost use Rattle.layout.specs.Entities.{OptionStr, OptionU32};
 ghost use Rattle.table.specs.Answers.{number_of};
 ghost use Rattle.pass.specs.Pass.{Meaning, Runs, Halts, Stays, Judges, value_in};
@@ -80,7 +80,16 @@ pub fn list<P: Pass, F: Fn(&mut P)>(p: &mut P, item: F)
     requires { F.IsAlwaysCallable item }
     ensures { (L : Layout) → ((q r : MutBor P) → F.post item q tt r → Runs P.meaning L q.now r.now) → Runs P.meaning (list L) p.old p.new }
 {
-    for _ in 0..p.count() {
+    let count = p.count();
+    times(p, count, item)
+}
+
+// That many items.
+pub fn times<P: Pass, F: Fn(&mut P)>(p: &mut P, count: u32, item: F)
+    requires { F.IsAlwaysCallable item }
+    ensures { (L : Layout) → ((q r : MutBor P) → F.post item q tt r → Runs P.meaning L q.now r.now) → Runs P.meaning (times count L) p.old p.new }
+{
+    for _ in 0..count {
         if p.is_refused() {
             return;
         }

@@ -1,1 +1,2 @@
 pub mod Pasted
+pub mod Private

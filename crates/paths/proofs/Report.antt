@@ -10,11 +10,8 @@ use Rattle.layout.specs.Theorems.{Bytes}
 use Rattle.layout.proofs.Walk.{all_ok}
 use Rattle.layout.proofs.Alone.{never_accepts, only_thirteen}
 use Rattle.std.specs.Prelude.{Result, Ok, Err}
-use Rattle.table.specs.Answers.{number_of, answer_of, result_of, counted, uncounted}
-use Rattle.std.proofs.lemmas.Grind.{common_steps}
+use Rattle.table.specs.Answers.{answer_of, result_of, counted, uncounted}
 use Rattle.table.specs.declared.Counts.{Counts}
-use Rattle.table.specs.declared.RefusalKind.{RefusalKind}
-use Rattle.table.specs.declared.RefusalKind.TheVariants.{TableTooSmall}
 use Rattle.table.specs.declared.Refusal.{Refusal}
 use Rattle.section.specs.Derivation.{Derivation, Placed, total_leaves, given_of, entities_of}
 use Rattle.section.specs.Section.{read_section, reading}
@@ -47,14 +44,10 @@ derived_thirteen : (s : List ℕ) (es : List Placed) (end : ℕ) → read_sectio
 unfolding reading
 derived_thirteen s es end e table n p q = only_thirteen (leb (total_leaves es) (whole_rows table)) (given_of es) table n p (rw e at q)
 
--- The refusal of 13
-thirteen : (kind : RefusalKind) → number_of kind ≡ 13 → kind ≡ TableTooSmall
-thirteen kind e = grind (arith, common_steps)
-
 -- No refusal of 1 to 12 is met
 abbrev pub Passes : Result Counts Refusal → Type 0
 Passes (Ok counts) = Unit {0}
-Passes (Err refusal) = refusal.kind ≡ TableTooSmall
+Passes (Err refusal) = refusal.number ≡ 13
 
 -- From the answer r of the reading through any table
 module _ (s : List ℕ) (u : Bytes s) (table after : List ℕ) (r : Result Counts Refusal) (e : result_of r after ≡ reading s table) where
@@ -69,8 +62,8 @@ module _ (s : List ℕ) (u : Bytes s) (table after : List ℕ) (r : Result Count
       go (refuse n p) k (Ok counts) q h =
           never_accepts (sym q ∙ answer_is s n p k table)
       go (refuse n p) k (Err refusal) q h =
-          let j : n ≡ number_of refusal.kind = ap (λ (a : answers.Answer). a.number) (sym (answer_is s n p k table) ∙ q) in
-          absurd (omega (arith, ap number_of h, refusal_numbered s n p ((refusal_exact s u n p).0 k)))
+          let j : n ≡ refusal.number = ap (λ (a : answers.Answer). a.number) (sym (answer_is s n p k table) ∙ q) in
+          absurd (omega (arith, h, refusal_numbered s n p ((refusal_exact s u n p).0 k)))
 
   pub passed : (v : Result Counts Refusal) → r ≡ v → Passes v → Rest s 0
   passed v q h = let (d, g) = derived v q h in rest_whole s d g
@@ -78,13 +71,13 @@ module _ (s : List ℕ) (u : Bytes s) (table after : List ℕ) (r : Result Count
   pub report_passed : (v : Result Counts Refusal) → r ≡ v → Passes v → (n : ℕ) → private.Counts s 0 n → counted n ≡ report s
   report_passed v q h n k = let (d, g) = derived v q h in ap counted (k (rest_whole s d g)) ∙ sym (report_derived s d g)
 
-  pub report_stopped : (x : Refusal) → r ≡ Err x → (x.kind ≡ TableTooSmall → ⊥) → uncounted (number_of x.kind) x.place ≡ report s
+  pub report_stopped : (x : Refusal) → r ≡ Err x → (x.number ≡ 13 → ⊥) → uncounted x.number x.place ≡ report s
   report_stopped x q h = go (read_section s) refl
     where
-      go : (m : Outcome ℕ (List Placed)) → read_section s ≡ m → uncounted (number_of x.kind) x.place ≡ report s
-      go (ok es end) k = absurd (h (thirteen x.kind (derived_thirteen s es end k table (number_of x.kind) x.place (answer_read (Err x) q))))
+      go : (m : Outcome ℕ (List Placed)) → read_section s ≡ m → uncounted x.number x.place ≡ report s
+      go (ok es end) k = absurd (h (derived_thirteen s es end k table x.number x.place (answer_read (Err x) q)))
       go (refuse m t) k =
           let e = sym (answer_read (Err x) q) ∙ answer_is s m t k table in
-          let i : number_of x.kind ≡ m = ap (λ (a : answers.Answer). a.number) e in
+          let i : x.number ≡ m = ap (λ (a : answers.Answer). a.number) e in
           let j : x.place ≡ t = ap (λ (a : answers.Answer). a.place) e in
           rw (i, j) (sym (report_refused s m t k))

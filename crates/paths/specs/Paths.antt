@@ -5,7 +5,7 @@ use Rattle.layout.specs.Entities.{value_in}
 use Rattle.layout.specs.Reading.{Outcome, ok, refuse}
 use Rattle.runs.specs.Runs.{pairs}
 use Rattle.table.specs.declared.Refusal.{Refusal}
-use Rattle.table.specs.Answers.{number_of, Total, counted, uncounted}
+use Rattle.table.specs.Answers.{Total, counted, uncounted}
 use Rattle.section.specs.Derivation.{Placed}
 use Rattle.section.specs.Section.{read_section}
 
@@ -62,4 +62,4 @@ report s = report_on (read_section s)
 -- The number, or number and place, of each case
 abbrev pub report_of : Result ℕ Refusal → Total
 report_of (Ok n) = counted n
-report_of (Err refusal) = uncounted (number_of refusal.kind) refusal.place
+report_of (Err refusal) = uncounted refusal.number refusal.place

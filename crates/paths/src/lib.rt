@@ -19,7 +19,7 @@ pub fn path_repeats(section: &[u8], work: &mut [u32]) -> Result<u64, Refusal>
     ensures exact_report { ExactReport section.now (report_of result) }
 {
     match section::decode_entities(section, &mut []) {
-        Err(refusal) if refusal.kind != RefusalKind::TableTooSmall => Err(refusal),
+        Err(refusal) if refusal.number != RefusalKind::TableTooSmall as u32 => Err(refusal),
         _ => Ok(count_pairs(section, work)),
     }
 }

@@ -3,10 +3,9 @@
 
 ghost use Rattle.std.specs.Prelude.{◌≡◌, ◌+◌};
 ghost use Rattle.layout.specs.Reading.{refuse};
-ghost use Rattle.table.specs.Answers.{number_of};
-ghost use Rattle.place.specs.Place.{between, found_part, part_of, number_in, place_in, bytes_told, number_told, place_told};
+ghost use Rattle.place.specs.Place.{between, found_part, part_of, number_in, place_in, bytes_told, number_told, place_told, told_as};
 
-use table::{Refusal, RefusalKind};
+use table::Refusal;
 
 // Where a part of the bytes is: from a start on.
 #[derive(Clone, Copy, Debug, PartialEq, Eq)]
@@ -26,10 +25,10 @@ impl Part {
 }
 
 // A refusal, with place 0.
-pub fn no_part(kind: RefusalKind) -> Result<Part, Refusal>
-    ensures { found_part result ≡ refuse (number_of kind) 0 }
+pub fn no_part(number: u32) -> Result<Part, Refusal>
+    ensures { found_part result ≡ refuse number 0 }
 {
-    Err(Refusal::at(kind, 0))
+    Err(Refusal { number, place: 0 })
 }
 
 // The part that was found; or the refusal.
@@ -37,6 +36,7 @@ pub fn part_at<'a>(bytes: &'a [u8], found: Result<Part, Refusal>) -> Result<&'a 
     ensures result_value { bytes_told result ≡ part_of bytes.now (found_part found) }
     ensures number_after { number_told result ≡ number_in (found_part found) }
     ensures place_after { place_told result ≡ place_in (found_part found) }
+    ensures case { told_as result (found_part found) }
 {
     Ok(found?.of(bytes))
 }

@@ -12,7 +12,7 @@ use std::cmp::Ordering;
 use std::marker::Model;
 
 // How many kinds there can be.
-const KINDS: u32 = 256;
+pub const KINDS: u32 = 256;
 
 // The kind of a text and the place where its length stands, in one number: KINDS times the place, plus the kind.
 #[derive(Clone, Copy, Debug, PartialEq, Eq)]

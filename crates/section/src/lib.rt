@@ -83,7 +83,7 @@ fn read_entries(reader: &mut Reader) -> Walk
     let mut end = framing::entry_end(s, at);
     while at < end {
         entities = read_whole_entry(reader, entities);
-        if reader.refusal.is_some() {
+        if reader.refusal != 0 {
             return Walk { at: end, entities };
         }
         at = end;
@@ -101,12 +101,12 @@ pub fn decode_entities(section: &[u8], table: &mut [u32]) -> Result<Counts, Refu
     ensures demand3 { Demand3 section.now table.old (result_of result table.new) }
 {
     if LIMIT < section.len() {
-        return table::refuse(table, RefusalKind::InputTooLong, 0);
+        return table::refuse(table, RefusalKind::InputTooLong as u32, 0);
     }
     let mut reader = Reader::new(section, table);
     let walk = read_entries(&mut reader);
     if let Err(refusal) = framing::framing_from(section, walk.at) {
-        reader.stop(refusal.kind, refusal.place);
+        return table::refuse(reader.t, refusal.number, refusal.place);
     }
     reader.answer(walk.entities)
 }

@@ -30,7 +30,6 @@ use Rattle.sql_text.specs.declared.Found.{Found}
 use Rattle.sql_text.specs.declared.Found.TheVariants.{Stored, Numeric as Numeric'}
 use Rattle.std.specs.Prelude.{Option, Result, Ok, Err, IfOk}
 use Rattle.table.specs.declared.Refusal.{Refusal}
-use Rattle.table.specs.declared.RefusalKind.TheVariants.{BadBufferSize}
 use Rattle.paste.specs.Pasted.{pasted}
 use Rattle.numeric.specs.Numeric.{numeric_size, option_of}
 use Rattle.sql_text.specs.SqlText.{TextMapping, SqlText, in_section, in_buffer, number_if, text_of_leaves, sql_text_of, sql_text, sql_answer}
@@ -72,7 +71,7 @@ module _ (s : List ℕ) (at size : ℕ) where
   sized_right found e = rw e (go (eqb size numeric_size) refl)
     where
       sized : Bool → Result Found Refusal
-      sized b = cond b (Ok found) (Err (record { kind = BadBufferSize; place = 0 }))
+      sized b = cond b (Ok found) (Err (record { number = 17; place = 0 }))
 
       go : (b : Bool) → eqb size numeric_size ≡ b → (outcome_of (sized b) ≡ need b 17 0 (text_found found)) × IfOk (sized b) (λ found. size ≡ numeric_size)
       go true h = (refl, eqb-true size numeric_size h)

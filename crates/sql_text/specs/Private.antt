@@ -2,8 +2,6 @@
 use Rattle.std.specs.Prelude.{ℕ, ◌+◌, cond, eqb, length, Result, Ok, Err}
 use Rattle.layout.specs.Reading.{Outcome, ok, refuse}
 use Rattle.table.specs.declared.Refusal.{Refusal}
-use Rattle.table.specs.declared.RefusalKind.TheVariants.{BadBufferSize}
-use Rattle.table.specs.Answers.{number_of}
 use Rattle.numeric.specs.Numeric.{numeric_text, numeric_size, option_of}
 use Rattle.sql_text.specs.declared.Found.{Found}
 use Rattle.sql_text.specs.declared.Found.TheVariants.{Stored, Numeric}
@@ -17,8 +15,8 @@ text_found (Numeric p q) = ok (in_buffer (numeric_text (option_of p) (option_of 
 -- The same, or the refusal instead
 abbrev pub outcome_of : Result Found Refusal → Outcome ℕ SqlText
 outcome_of (Ok found) = text_found found
-outcome_of (Err refusal) = refuse (number_of refusal.kind) refusal.place
+outcome_of (Err refusal) = refuse refusal.number refusal.place
 
 -- What was found, unless the buffer has another size
 abbrev pub sized_for : ℕ → Found → Result Found Refusal
-sized_for size found = cond (eqb size numeric_size) (Ok found) (Err (record { kind = BadBufferSize; place = 0 }))
+sized_for size found = cond (eqb size numeric_size) (Ok found) (Err (record { number = 17; place = 0 }))

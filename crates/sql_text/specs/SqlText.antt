@@ -8,7 +8,6 @@ use Rattle.layout.specs.Answers.{limit}
 use Rattle.sql_text.specs.declared.SqlPlace.{SqlPlace}
 use Rattle.sql_text.specs.declared.SqlPlace.TheVariants.{Section, Buffer}
 use Rattle.table.specs.declared.Refusal.{Refusal}
-use Rattle.table.specs.Answers.{number_of}
 use Rattle.place.specs.Place.{between}
 use Rattle.numeric.specs.Numeric.{numeric_text, numeric_size}
 
@@ -81,4 +80,4 @@ sql_placed (Buffer len) = record { number = 0; place = 0; buffered = true; begin
 -- The meaning of each case of the code's answer
 abbrev pub sql_answer_of : Result SqlPlace Refusal → SqlAnswer
 sql_answer_of (Ok place) = sql_placed place
-sql_answer_of (Err refusal) = refused_sql (number_of refusal.kind) refusal.place
+sql_answer_of (Err refusal) = refused_sql refusal.number refusal.place

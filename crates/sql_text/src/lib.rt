@@ -4,7 +4,7 @@
 ghost use Rattle.std.specs.Prelude.{◌≡◌, ◌+◌, ◌*◌, ◌≤◌, length, IfOk};
 ghost use Rattle.layout.specs.Written.{row_width, value_at};
 ghost use Rattle.numeric.specs.Numeric.{numeric_size, option_of};
-ghost use Rattle.place.specs.Place.{number_in, place_in, bytes_told, number_told, place_told};
+ghost use Rattle.place.specs.Place.{number_in, place_in, bytes_told, number_told, place_told, told_as};
 ghost use Rattle.sql_text.specs.SqlText.{number_if, sql_text, sql_part_of, filled, sql_answer, sql_answer_of};
 ghost use Rattle.sql_text.specs.Private.{outcome_of, sized_for};
 
@@ -37,6 +37,7 @@ pub enum SqlPlace {
 pub fn place_sql_text(section: &[u8], offset: u32, buffer: &mut [u8]) -> Result<SqlPlace, Refusal>
     ensures result_value { sql_answer_of result ≡ sql_answer (sql_text section.now offset (length buffer.old)) }
     ensures buffer_after { buffer.new ≡ filled buffer.old (sql_text section.now offset (length buffer.old)) }
+    ensures case { told_as result (sql_text section.now offset (length buffer.old)) }
 {
     match find_sql_text(section, offset, buffer.len())? {
         Found::Stored(part) => Ok(SqlPlace::Section(part)),
@@ -54,6 +55,7 @@ pub fn fill_sql_text(section: &[u8], offset: u32, buffer: &mut [u8]) -> Result<(
     ensures buffer_after { buffer.new ≡ filled buffer.old (sql_text section.now offset (length buffer.old)) }
     ensures number_after { number_told result ≡ number_in (sql_text section.now offset (length buffer.old)) }
     ensures place_after { place_told result ≡ place_in (sql_text section.now offset (length buffer.old)) }
+    ensures case { told_as result (sql_text section.now offset (length buffer.old)) }
 {
     place_sql_text(section, offset, buffer)?;
     Ok(())
@@ -64,6 +66,7 @@ pub fn sql_text<'a>(section: &'a [u8], offset: u32, buffer: &'a [u8]) -> Result<
     ensures result_value { bytes_told result ≡ sql_part_of section.now buffer.now (sql_text section.now offset (length buffer.now)) }
     ensures number_after { number_told result ≡ number_in (sql_text section.now offset (length buffer.now)) }
     ensures place_after { place_told result ≡ place_in (sql_text section.now offset (length buffer.now)) }
+    ensures case { told_as result (sql_text section.now offset (length buffer.now)) }
 {
     match find_sql_text(section, offset, buffer.len())? {
         Found::Stored(part) => Ok(part.of(section)),
@@ -95,8 +98,11 @@ fn find_sql_text(section: &[u8], offset: u32, size: usize) -> Result<Found, Refu
     let mut reader = Reader::new(section, &mut t);
     reader.seek(at);
     metadata::sql_mapping(&mut reader);
-    if let Some(kind) = reader.refusal {
-        return Err(Refusal::at(kind, reader.at));
+    if reader.refusal != 0 {
+        return Err(Refusal {
+            number: reader.refusal,
+            place: reader.at,
+        });
     }
     match reader.seen(at, 0) {
         layout::SQL_MAPPING_AS => {

@@ -1,5 +1,6 @@
 -- What the answers of the code mean.
-use Rattle.std.specs.Prelude.{ℕ, List, Result, Ok, Err}
+use Rattle.std.specs.Prelude.{ℕ, List, ◌++◌, Result, Ok, Err, codes}
+use Rattle.std.specs.Fmt.{decimal}
 use Rattle.table.specs.declared.RefusalKind.{RefusalKind}
 use Rattle.table.specs.declared.RefusalKind.TheVariants.{InputTooLong, PartialLength, ZeroLength, EntryTooLong, Truncated, BadFlag, NotUtf8, UnknownKind, UnknownTag, NoSqlText, DeclaredError, TrailingBytes, TableTooSmall, BadRows, BadTextRow, OutputTooLong, BadBufferSize, NotElf64, BadSectionHeaders, NoSuchSection, ListTooSmall}
 use Rattle.table.specs.declared.Refusal.{Refusal}
@@ -33,7 +34,11 @@ number_of ListTooSmall = 21
 -- The code's answer: the two counts; or a number and a place, with both counts 0
 abbrev pub answer_of : Result Counts Refusal → answers.Answer
 answer_of (Ok counts) = answers.accepted counts.entities counts.rows
-answer_of (Err refusal) = answers.refused (number_of refusal.kind) refusal.place
+answer_of (Err refusal) = answers.refused refusal.number refusal.place
+
+-- How a refusal prints
+abbrev pub refusal_text : Refusal → List ℕ
+refusal_text r = codes "refusal " ++ (decimal r.number ++ (codes " at " ++ decimal r.place))
 
 -- The code's answer, with the table after it
 abbrev pub result_of : Result Counts Refusal → List ℕ → answers.Result

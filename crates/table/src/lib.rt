@@ -1,10 +1,10 @@
 // The lent table: its rows, clearing it, and the answers that come with it.
 #![tactic(auto)]
 
-ghost use Rattle.std.specs.Prelude.{◌≡◌};
+ghost use Rattle.std.specs.Prelude.{◌≡◌, Some};
 ghost use Rattle.layout.specs.Answers.{refusal};
 ghost use Rattle.table.specs.Table.{row_of, cleared};
-ghost use Rattle.table.specs.Answers.{number_of, result_of};
+ghost use Rattle.table.specs.Answers.{number_of, refusal_text, result_of};
 
 use layout::ROW_WIDTH;
 use std::error::Error;
@@ -53,25 +53,30 @@ impl RefusalKind {
     }
 }
 
-// A refusal: its kind and place.
+// A refusal: its number and place.
 #[derive(Clone, Copy, Debug, PartialEq, Eq)]
 pub struct Refusal {
-    pub kind: RefusalKind,
+    pub number: u32,
     pub place: usize,
 }
 
 impl Refusal {
     // A refusal at a place.
     pub fn at(kind: RefusalKind, place: usize) -> Refusal
-        ensures { result ≡ record { kind = kind; place = place } }
+        ensures { result ≡ record { number = number_of kind; place = place } }
     {
-        Refusal { kind, place }
+        Refusal {
+            number: kind.number(),
+            place,
+        }
     }
 }
 
 impl fmt::Display for Refusal {
+    ghost output = { λ r. Some (refusal_text r) };
+
     fn fmt<W: fmt::Write>(&self, f: &mut fmt::Formatter<W>) -> fmt::Result {
-        write!(f, "refusal {} at {}", self.kind.number(), self.place)
+        write!(f, "refusal {} at {}", self.number, self.place)
     }
 }
 
@@ -109,9 +114,9 @@ pub fn clear_from(table: &mut [u32], from: usize)
 }
 
 // A refusal: the table is set to 0.
-pub fn refuse(table: &mut [u32], kind: RefusalKind, place: usize) -> Result<Counts, Refusal>
-    ensures { result_of result table.new ≡ refusal (number_of kind) place table.old }
+pub fn refuse(table: &mut [u32], number: u32, place: usize) -> Result<Counts, Refusal>
+    ensures { result_of result table.new ≡ refusal number place table.old }
 {
     clear_from(table, 0);
-    Err(Refusal::at(kind, place))
+    Err(Refusal { number, place })
 }

@@ -6,25 +6,16 @@ use Rattle.directory.proofs.Listed.{listed}
 use Rattle.directory.proofs.Exact.{directory_exact}
 use Rattle.directory.proofs.decode_directory.Goals as goal
 
-pub returns-in_err-counts-clause-records_after : goal.returns-in_err-counts-clause-records_after
-returns-in_err-counts-clause-records_after c =
+pub returns-in_err-counts : goal.returns-in_err-counts
+returns-in_err-counts c =
     let section = c.args.section.now in
     let table = c.args.table.now in
     let list = c.args.records.now in
     let refused = Err c.in_err-counts.field-0.0 in
     let after = c.read_for.new.table in
     let e : listed_of refused after list ≡ directory section table list = listed section table list after refused c.in_err-counts.ensures.0 list refl in
-    search (rules, e)
-
-pub returns-in_err-counts-clause-exact_directory : goal.returns-in_err-counts-clause-exact_directory
-returns-in_err-counts-clause-exact_directory c =
-    let section = c.args.section.now in
-    let table = c.args.table.now in
-    let list = c.args.records.now in
-    let refused = Err c.in_err-counts.field-0.0 in
-    let after = c.read_for.new.table in
-    let e : listed_of refused after list ≡ directory section table list = listed section table list after refused c.in_err-counts.ensures.0 list refl in
-    search (rules, (directory_exact section (λ i h. omega (arith, c.type_inv.section i)) table list (listed_of refused after list)).1 e)
+    let told = (directory_exact section (λ i h. omega (arith, c.type_inv.section i)) table list (listed_of refused after list)).1 e in
+    record { records_after = search (rules, e); exact_directory = search (rules, told) }
 
 pub returns : goal.returns
 returns c =

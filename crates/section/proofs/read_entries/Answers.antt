@@ -1,8 +1,7 @@
 -- From entry to entry, up to a refusal or to where there is no whole entry.
 use native.Mathlib.Omega.{arith}
-use mathlib.Core.Path.{refl, sym, ap, ◌∙◌}
+use mathlib.Core.Path.{refl, ap, ◌∙◌}
 use Rattle.reading.specs.State.{ReadState}
-use Rattle.leaf.proofs.Leaves.{some_number, none_number}
 use Rattle.section.specs.Entry.{stage, staged}
 use Rattle.section.proofs.Entries.{come_start, come_end}
 use Rattle.section.proofs.Reached.{fits, led}
@@ -14,24 +13,24 @@ loop-at-init c = record { come = come_start _ _ c.requires.small _ (ap (λ (st :
 pub read_whole_entry-entities-requires-clause-whole : goal.read_whole_entry-entities-requires-clause-whole
 read_whole_entry-entities-requires-clause-whole c = fits c.loop-at.invariant c.requires.bytes c.requires.small c.loop-at-test.true
 
-pub returns-then-is_some-clause-stage : goal.returns-then-is_some-clause-stage
-returns-then-is_some-clause-stage c =
+pub returns-then-reader-ne0-clause-stage : goal.returns-then-reader-ne0-clause-stage
+returns-then-reader-ne0-clause-stage c =
     let entry = c.read_whole_entry-entities in
     let next = led c.loop-at.invariant c.requires.bytes c.requires.small c.loop-at-test.true entry.new.reader entry.result entry.ensures.stage in
-    next.refuses (some_number _ (sym c.is_some.ensures ∙ c.if-is_some.true))
+    next.refuses c.if-reader-ne0.true
 
 pub loop-at-smaller : goal.loop-at-smaller
 loop-at-smaller c =
     let entry = c.read_whole_entry-entities in
     let next = led c.loop-at.invariant c.requires.bytes c.requires.small c.loop-at-test.true entry.new.reader entry.result entry.ensures.stage in
-    omega (arith, c.loop-at-test.true, (next.goes (none_number _ (sym c.is_some.ensures ∙ c.if-is_some.false))).walked.inside)
+    omega (arith, c.loop-at-test.true, (next.goes c.if-reader-ne0.false).walked.inside)
 
 pub loop-at-preserved : goal.loop-at-preserved
 loop-at-preserved c =
     let entry = c.read_whole_entry-entities in
     let next = led c.loop-at.invariant c.requires.bytes c.requires.small c.loop-at-test.true entry.new.reader entry.result entry.ensures.stage in
     record {
-      come = next.goes (none_number _ (sym c.is_some.ensures ∙ c.if-is_some.false));
+      come = next.goes c.if-reader-ne0.false;
       ends = c.entry_end-end-in-loop-at.ensures;
       lent = entry.ensures.lent ∙ c.loop-at.invariant.lent;
     }

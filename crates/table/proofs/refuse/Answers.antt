@@ -3,4 +3,4 @@ use Rattle.table.proofs.Cleared.{cleared_all}
 use Rattle.table.proofs.refuse.Goals as goal
 
 pub returns : goal.returns
-returns c = simp (c.clear_from.ensures, cleared_all, c.at.ensures)
+returns c = simp (c.clear_from.ensures, cleared_all)

@@ -24,6 +24,6 @@ writer_meaning = record {
   machine = λ x. writer x.0 x.1;
   place = λ st. st.row;
   refused = λ st. st.refusal ≡ 0 → ⊥;
-  halted = λ number place st. stopped_once st;
+  after_refusal = λ number place st. stopped_once st;
   seen = λ x begin index. (row_of x.0 (begin + index)).value;
 }

@@ -11,15 +11,10 @@ ghost use Rattle.framing.specs.Places.{entry_end, sentinel_at, past_sentinels};
 use layout::LIMIT;
 use table::{Refusal, RefusalKind};
 
-// The sentinel's payload, 00 04 00 00 00 70 67 72 78, as two numbers and a byte.
-const SENTINEL_FIRST: u32 = 0x0000_0400;
+// The sentinel's payload, 00 04 00 00 00 70 67 72 78: its first eight bytes, as a number, and its last.
+const SENTINEL_HEAD: u64 = 0x7267_7000_0000_0400;
 
-const SENTINEL_SECOND: u32 = 0x7267_7000;
-
-const SENTINEL_LAST: u8 = 0x78;
-
-// Its length.
-const SENTINEL_SIZE: usize = 9;
+const SENTINEL_LAST: u8 = b'x';
 
 // How many bytes are tested for zeros at a time.
 const BLOCK: usize = 64;
@@ -98,20 +93,16 @@ fn framing_at(s: &[u8], at: usize) -> Result<usize, Refusal>
 }
 
 // Whether a payload is the sentinel. Most have another length.
+#[tactic(auto, using(raw_bytes::proofs::Compared::same_not))]
 pub fn is_sentinel(payload: &[u8]) -> bool
     ensures value { result ≡ same payload.now sentinel_bytes }
     ensures variant { (result ≡ true) ↔ (payload.now ≡ sentinel_bytes) }
 {
-    if payload.len() != SENTINEL_SIZE {
-        return false;
+    match payload.split_first_chunk() {
+        Some((head, [last])) => u64::from_le_bytes(*head) == SENTINEL_HEAD
+            && *last == SENTINEL_LAST,
+        _ => false,
     }
-    if raw_bytes::number_at(payload, 0) != SENTINEL_FIRST {
-        return false;
-    }
-    if raw_bytes::number_at(payload, 4) != SENTINEL_SECOND {
-        return false;
-    }
-    payload[8] == SENTINEL_LAST
 }
 
 // Whether the sentinel's entry is at a place.

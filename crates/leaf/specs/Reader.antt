@@ -8,8 +8,8 @@ use Rattle.reading.specs.State.{Cursor, ReadState, read_state, refused_once}
 use Rattle.reading.specs.Run.{reader}
 
 -- A cursor that was kept
-abbrev pub kept : declared.Cursor → Cursor
-kept c = record { at = c.at; rows = c.rows; refusal = c.refusal; value = c.value }
+abbrev pub cursor_kept : declared.Cursor → Cursor
+cursor_kept c = record { at = c.at; rows = c.rows; refusal = c.refusal; value = c.value }
 
 -- Its cursor
 abbrev pub cursor_of : Reader → Cursor
@@ -33,6 +33,6 @@ reader_meaning = record {
   machine = λ x. reader x.0;
   place = λ st. st.cursor.at;
   refused = λ st. st.cursor.refusal ≡ 0 → ⊥;
-  halted = λ number place st. read_state (refused_once number place st.cursor) st.table;
+  after_refusal = λ number place st. read_state (refused_once number place st.cursor) st.table;
   seen = λ x begin index. slice_index x.0 (begin + index);
 }

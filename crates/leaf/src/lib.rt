@@ -6,7 +6,7 @@ ghost use Rattle.layout.specs.Layout.{refusal_of};
 ghost use Rattle.layout.specs.Reading.{byte_at, four_at};
 ghost use Rattle.table.specs.Answers.{result_of};
 ghost use Rattle.reading.specs.State.{read_state, new_cursor, seek, refused_once, finished_at, stop, put, guarded};
-ghost use Rattle.leaf.specs.Reader.{kept, cursor_of, state_of, lent_of, reader_meaning};
+ghost use Rattle.leaf.specs.Reader.{cursor_kept, cursor_of, state_of, lent_of, reader_meaning};
 ghost use Rattle.reading.specs.Answered.{answered, answered_alone};
 ghost use Rattle.leaf.specs.Private.{put_number, Left};
 ghost use Rattle.reading.proofs.Still.{run_refused, halt_refused};
@@ -30,7 +30,7 @@ pub struct Cursor {
 impl Cursor {
     // A cursor at the first byte.
     pub fn new() -> Cursor
-        ensures { kept result ≡ new_cursor }
+        ensures { cursor_kept result ≡ new_cursor }
     {
         Cursor {
             at: 0,
@@ -86,7 +86,7 @@ impl<'a> Reader<'a> {
 
     // Where the reading stands.
     pub fn cursor(&self) -> Cursor
-        ensures { kept result ≡ cursor_of self.now }
+        ensures { cursor_kept result ≡ cursor_of self.now }
     {
         Cursor {
             at: self.at,
@@ -99,7 +99,7 @@ impl<'a> Reader<'a> {
     // The reading goes on from a cursor.
     pub fn resume(&mut self, cursor: Cursor)
         ensures lent { lent_of self.new ≡ lent_of self.old }
-        ensures state { state_of self.new ≡ read_state (kept cursor) self.old.t.now }
+        ensures state { state_of self.new ≡ read_state (cursor_kept cursor) self.old.t.now }
     {
         self.at = cursor.at;
         self.rows = cursor.rows;

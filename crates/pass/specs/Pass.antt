@@ -15,7 +15,7 @@ pub record Meaning (P : Type 0) : Type 1 where
   pub machine : Lent → Machine State
   pub place : State → ℕ
   pub refused : State → Type 0
-  pub halted : (number place : ℕ) → State → State
+  pub after_refusal : (number place : ℕ) → State → State
   pub seen : Lent → (place index : ℕ) → ℕ
 
 module _ {P : Type 0} (M : Meaning P) where
@@ -31,7 +31,7 @@ module _ {P : Type 0} (M : Meaning P) where
   -- A refusal by its number, for what began at a place
   pub record Halts (number place : ℕ) (p q : P) : Type 0 where
     pub lent : M.lent q ≡ M.lent p
-    pub whole : M.state q ≡ M.halted number place (M.state p)
+    pub whole : M.state q ≡ M.after_refusal number place (M.state p)
     pub state : (f : Fault) (begin : M.State) → refusal_of f ≡ number → M.place begin ≡ place → M.state q ≡ (M.machine (M.lent p)).halt f begin (M.state p)
 
   -- A state that is refused does not change

@@ -244,7 +244,7 @@ module _ (s table : List ℕ) (u : Bytes s) (small : length s ≤ limit) where
         go false q = leads_entity q (read Entity (take z s) (at + 4)) refl
 
   module _ (at : ℕ) (g : Stage) (h : Come s table at g) (end : ℕ) (q : end ≡ entry_end s at) where
-    stands_at : g.state.cursor.at ≡ at
+    pub stands_at : g.state.cursor.at ≡ at
     stands_at = ap (λ (x : Stage). x.state.cursor.at) h.stands
 
     -- From one boundary to the next
@@ -252,8 +252,11 @@ module _ (s table : List ℕ) (u : Bytes s) (small : length s ≤ limit) where
       here : at < entry_end s at
       here = omega (arith, q)
 
-      pub entry_fits : g.state.cursor.at + 4 + number_or0 s g.state.cursor.at ≤ length s
-      entry_fits = rw stands_at (whole_here s at here).2
+      pub entry_whole : end ≡ at + 4 + number_or0 s at
+      entry_whole = q ∙ (whole_here s at here).0
+
+      pub entry_inside : end ≤ length s
+      entry_inside = omega (arith, entry_whole, (whole_here s at here).2)
 
       pub few_entities : g.entities ≤ limit
       few_entities = rw (ap (λ (x : Stage). x.entities) h.stands) (omega (arith, h.few, h.walked.inside, small))
@@ -310,15 +313,15 @@ pub reads_refused : {table : List ℕ} {end : ℕ} {g : Stage} (o : Outcome ℕ 
 reads_refused {table} o (reads {es} e) n = absurd (n (ap (λ (x : Stage). x.state.cursor.refusal) e ∙ arrive_entities_refusal es (read_state new_cursor table)))
 reads_refused o (stops h) n = rw (h.0, h.2)
 
--- One entry, from the results of the code's calls: n is its length, b whether it is the sentinel
-module _ (s : List ℕ) (g : Stage) (n : ℕ) (q : n ≡ number_or0 s g.state.cursor.at) (b : Bool) (e : b ≡ same (drop (g.state.cursor.at + 4) (take (g.state.cursor.at + 4 + n) s)) sentinel_bytes) where
-  pub entry_sentinel : b ≡ true → (r : ReadState) → r ≡ seeks (g.state.cursor.at + 4 + n) g.state → stage r g.entities ≡ past_entry s g
+-- One entry, from the results of the code's calls: `end` is its end, b whether it is the sentinel
+module _ (s : List ℕ) (g : Stage) (at end : ℕ) (l : g.state.cursor.at ≡ at) (q : end ≡ at + 4 + number_or0 s at) (b : Bool) (e : b ≡ same (drop (at + 4) (take end s)) sentinel_bytes) where
+  pub entry_sentinel : b ≡ true → (r : ReadState) → r ≡ seeks end g.state → stage r g.entities ≡ past_entry s g
   unfolding past_entry
-  entry_sentinel k r w = rw (← q, ← e, k, w)
+  entry_sentinel k r w = rw (l, ← q, ← e, k, w)
 
-  pub entry_entity : b ≡ false → (c : ReadState) → c ≡ seeks (g.state.cursor.at + 4) g.state → (r : ReadState) → r ≡ run Entity (take (g.state.cursor.at + 4 + n) s) c
-      → (d : ReadState) → d ≡ read_state (finished_at (g.state.cursor.at + 4 + n) r.cursor) r.table → stage d (g.entities + 1) ≡ past_entry s g
+  pub entry_entity : b ≡ false → (c : ReadState) → c ≡ seeks (at + 4) g.state → (r : ReadState) → r ≡ run Entity (take end s) c
+      → (d : ReadState) → d ≡ read_state (finished_at end r.cursor) r.table → stage d (g.entities + 1) ≡ past_entry s g
   unfolding past_entry
   entry_entity k c w r v d y =
-      let i : run Entity (take (g.state.cursor.at + 4 + n) s) (seeks (g.state.cursor.at + 4) g.state) ≡ r = sym (v ∙ rw w) in
-      rw (← q, ← e, k, i, y)
+      let i : run Entity (take end s) (seeks (at + 4) g.state) ≡ r = sym (v ∙ rw w) in
+      rw (l, ← q, ← e, k, i, y)

@@ -40,23 +40,26 @@ pub fn read_entry(reader: &mut Reader, entities: usize) -> usize
     if LIMIT < entities {
         return entities;
     }
-    if framing::entry_end(reader.s, reader.at) <= reader.at {
+    let at = reader.at;
+    let end = framing::entry_end(reader.s, at);
+    if end <= at {
         return entities;
     }
-    read_whole_entry(reader, entities)
+    read_whole_entry(reader, at, end, entities)
 }
 
-// The same, if there is a whole entry. An entity's reader sees no byte after the entry.
-fn read_whole_entry(reader: &mut Reader, entities: usize) -> usize
-    requires whole { reader.old.at + 4 + number_or0 reader.old.s.now reader.old.at ≤ length reader.old.s.now }
+// The same, if there is a whole entry, from the reader's place up to an end. An entity's reader sees no byte after the entry.
+fn read_whole_entry(reader: &mut Reader, at: usize, end: usize, entities: usize) -> usize
+    requires place { reader.old.at ≡ at }
+    requires whole { end ≡ at + 4 + number_or0 reader.old.s.now at }
+    requires inside { end ≤ length reader.old.s.now }
     requires small { length reader.old.s.now ≤ limit }
     requires few { entities ≤ limit }
     ensures lent { lent_of reader.new ≡ lent_of reader.old }
     ensures stage { staged reader.new result ≡ past_entry reader.old.s.now (staged reader.old entities) }
 {
     let s = reader.s;
-    let begin = reader.at + 4;
-    let end = begin + raw_bytes::number_at(s, reader.at) as usize;
+    let begin = at + 4;
     if framing::is_sentinel(&s[begin..end]) {
         reader.seek(end);
         return entities;
@@ -82,7 +85,7 @@ fn read_entries(reader: &mut Reader) -> Walk
     let mut at = 0;
     let mut end = framing::entry_end(s, at);
     while at < end {
-        entities = read_whole_entry(reader, entities);
+        entities = read_whole_entry(reader, at, end, entities);
         if reader.refusal != 0 {
             return Walk { at: end, entities };
         }

@@ -4,14 +4,20 @@ use mathlib.Core.Path.{refl, ap, ◌∙◌}
 use Rattle.reading.specs.State.{ReadState}
 use Rattle.section.specs.Entry.{stage, staged}
 use Rattle.section.proofs.Entries.{come_start, come_end}
-use Rattle.section.proofs.Reached.{fits, led}
+use Rattle.section.proofs.Reached.{place, whole, inside, led}
 use Rattle.section.proofs.read_entries.Goals as goal
 
 pub loop-at-init : goal.loop-at-init
 loop-at-init c = record { come = come_start _ _ c.requires.small _ (ap (λ (st : ReadState). stage st 0) c.requires.start); ends = c.entry_end-end.ensures; lent = refl }
 
+pub read_whole_entry-entities-requires-clause-place : goal.read_whole_entry-entities-requires-clause-place
+read_whole_entry-entities-requires-clause-place c = place c.loop-at.invariant c.requires.bytes c.requires.small c.loop-at-test.true
+
 pub read_whole_entry-entities-requires-clause-whole : goal.read_whole_entry-entities-requires-clause-whole
-read_whole_entry-entities-requires-clause-whole c = fits c.loop-at.invariant c.requires.bytes c.requires.small c.loop-at-test.true
+read_whole_entry-entities-requires-clause-whole c = whole c.loop-at.invariant c.requires.bytes c.requires.small c.loop-at-test.true
+
+pub read_whole_entry-entities-requires-clause-inside : goal.read_whole_entry-entities-requires-clause-inside
+read_whole_entry-entities-requires-clause-inside c = inside c.loop-at.invariant c.requires.bytes c.requires.small c.loop-at-test.true
 
 pub returns-then-reader-ne0-clause-stage : goal.returns-then-reader-ne0-clause-stage
 returns-then-reader-ne0-clause-stage c =

@@ -22,18 +22,24 @@ returns-then-entities-gt-LIMIT-clause-stage c =
     let p = c.args.reader.now in
     sym (entry_too_many p.s.now (staged p c.args.entities) (not_refused p c.is_refused.ensures c.if-is_refused.false) c.if-reader-gt-LIMIT.false c.if-entities-gt-LIMIT.true)
 
-pub returns-then-entry_end-reader-clause-stage : goal.returns-then-entry_end-reader-clause-stage
-returns-then-entry_end-reader-clause-stage c =
+pub returns-then-end-at-clause-stage : goal.returns-then-end-at-clause-stage
+returns-then-end-at-clause-stage c =
     let p = c.args.reader.now in
-    sym (entry_none p.s.now (staged p c.args.entities) (not_refused p c.is_refused.ensures c.if-is_refused.false) c.if-reader-gt-LIMIT.false c.if-entities-gt-LIMIT.false (omega (arith, c.if-entry_end-reader.true, c.entry_end.ensures)))
+    sym (entry_none p.s.now (staged p c.args.entities) (not_refused p c.is_refused.ensures c.if-is_refused.false) c.if-reader-gt-LIMIT.false c.if-entities-gt-LIMIT.false (omega (arith, c.if-end-at.true, c.entry_end-end.ensures)))
 
 pub read_whole_entry-requires-clause-whole : goal.read_whole_entry-requires-clause-whole
 read_whole_entry-requires-clause-whole c =
     let p = c.args.reader.now in
-    (whole_here p.s.now p.at (omega (arith, c.if-entry_end-reader.false, c.entry_end.ensures))).2
+    c.entry_end-end.ensures ∙ (whole_here p.s.now p.at (omega (arith, c.if-end-at.false, c.entry_end-end.ensures))).0
+
+pub read_whole_entry-requires-clause-inside : goal.read_whole_entry-requires-clause-inside
+read_whole_entry-requires-clause-inside c =
+    let p = c.args.reader.now in
+    let (e, _, k) = whole_here p.s.now p.at (omega (arith, c.if-end-at.false, c.entry_end-end.ensures)) in
+    omega (arith, c.entry_end-end.ensures, e, k)
 
 pub returns-clause-stage : goal.returns-clause-stage
 returns-clause-stage c =
     let p = c.args.reader.now in
     c.read_whole_entry.ensures.stage
-    ∙ sym (entry_some p.s.now (staged p c.args.entities) (not_refused p c.is_refused.ensures c.if-is_refused.false) c.if-reader-gt-LIMIT.false c.if-entities-gt-LIMIT.false (omega (arith, c.if-entry_end-reader.false)))
+    ∙ sym (entry_some p.s.now (staged p c.args.entities) (not_refused p c.is_refused.ensures c.if-is_refused.false) c.if-reader-gt-LIMIT.false c.if-entities-gt-LIMIT.false (omega (arith, c.if-end-at.false, c.entry_end-end.ensures)))

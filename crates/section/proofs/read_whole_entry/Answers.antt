@@ -9,18 +9,16 @@ use Rattle.section.proofs.read_whole_entry.Goals as goal
 
 pub returns-then-is_sentinel-clause-stage : goal.returns-then-is_sentinel-clause-stage
 returns-then-is_sentinel-clause-stage c =
-    let p = c.args.reader.now in
-    let s = p.s.now in
-    let at = p.at in
-    let n = c.number_at in
-    let test = payload_test s (at + 4) (at + 4 + n.result) (omega arith) (omega (arith, c.requires.whole)) _ c.is_sentinel.ensures.value in
-    entry_sentinel s (staged p c.args.entities) _ n.ensures _ test c.if-is_sentinel.true (state_of c.seek.new.self) c.seek.ensures.state
+    let a = c.args in
+    let r = c.requires in
+    let s = a.reader.now.s.now in
+    let test = payload_test s (a.at + 4) a.end (omega (arith, r.whole)) (omega (arith, r.whole, r.inside)) _ c.is_sentinel.ensures.value in
+    entry_sentinel s (staged a.reader.now a.entities) a.at a.end r.place r.whole _ test c.if-is_sentinel.true (state_of c.seek.new.self) c.seek.ensures.state
 
 pub returns-clause-stage : goal.returns-clause-stage
 returns-clause-stage c =
-    let p = c.args.reader.now in
-    let s = p.s.now in
-    let at = p.at in
-    let n = c.number_at in
-    let test = payload_test s (at + 4) (at + 4 + n.result) (omega arith) (omega (arith, c.requires.whole)) _ c.is_sentinel.ensures.value in
-    entry_entity s (staged p c.args.entities) _ n.ensures _ test c.if-is_sentinel.false (state_of c.seek-2.new.self) c.seek-2.ensures.state (state_of c.entity.new.p) c.entity.ensures.state (state_of c.finish.new.self) c.finish.ensures.state
+    let a = c.args in
+    let r = c.requires in
+    let s = a.reader.now.s.now in
+    let test = payload_test s (a.at + 4) a.end (omega (arith, r.whole)) (omega (arith, r.whole, r.inside)) _ c.is_sentinel.ensures.value in
+    entry_entity s (staged a.reader.now a.entities) a.at a.end r.place r.whole _ test c.if-is_sentinel.false (state_of c.seek-2.new.self) c.seek-2.ensures.state (state_of c.entity.new.p) c.entity.ensures.state (state_of c.finish.new.self) c.finish.ensures.state

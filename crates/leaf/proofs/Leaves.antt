@@ -10,6 +10,9 @@ use lib.Dec.{eqb, leb}
 use borrow.Author.Tests.{eq-eqb, ne_eqb, lt-leb, le-leb, eqb-true, eqb-false, leb-true}
 use Rattle.std.specs.Prelude.{◌↔◌}
 use Rattle.std.proofs.lemmas.Bool.{false≢true}
+use Rattle.std.proofs.lemmas.Grind.{common_steps}
+use Rattle.table.specs.declared.RefusalKind.{RefusalKind}
+use Rattle.table.specs.Answers.{number_of}
 use Rattle.leaf.specs.declared.Reader.{Reader}
 use Rattle.leaf.specs.Reader.{cursor_of, state_of}
 use Rattle.layout.specs.Layout.{Sort, plain, string}
@@ -39,6 +42,10 @@ module _ (s table : List ℕ) (c : Cursor) (out : ReadState) where
     pub goes_on : length s ≤ limit → (r : ReadState) → r ≡ out → r ≡ guarded s out (read_state c table)
     unfolding guarded
     goes_on h r e = rw (eq-eqb _ _ z, le-leb (length s) limit h) e
+
+-- The number of a kind of refusal is not 0
+pub number_not_0 : (kind : RefusalKind) → number_of kind ≡ 0 → ⊥
+number_not_0 kind e = grind (arith, common_steps)
 
 module _ {n : ℕ} {p q : Reader} where
   -- With n bytes left, the reading goes on

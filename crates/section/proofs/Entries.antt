@@ -258,6 +258,9 @@ module _ (s table : List ℕ) (u : Bytes s) (small : length s ≤ limit) where
       pub entry_inside : end ≤ length s
       entry_inside = omega (arith, entry_whole, (whole_here s at here).2)
 
+      pub entry_fits : g.state.cursor.at + 4 + number_or0 s g.state.cursor.at ≤ length s
+      entry_fits = rw (stands_at, ← entry_whole) entry_inside
+
       pub few_entities : g.entities ≤ limit
       few_entities = rw (ap (λ (x : Stage). x.entities) h.stands) (omega (arith, h.few, h.walked.inside, small))
 

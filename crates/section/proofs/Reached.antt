@@ -10,7 +10,7 @@ use Rattle.framing.specs.Places.{entry_end}
 use Rattle.leaf.specs.declared.Reader.{Reader}
 use Rattle.leaf.specs.Reader.{lent_of}
 use Rattle.section.specs.Entry.{staged, past_entry}
-use Rattle.section.proofs.Entries.{Come, Leads, stands_at, entry_whole, entry_inside, leads}
+use Rattle.section.proofs.Entries.{Come, Leads, stands_at, entry_whole, entry_inside, entry_fits, leads}
 
 -- From where the reader was p, the walk has reached a boundary, where the entry ends at `end`
 pub record Reached (p : Reader) (at end : ℕ) (q : Reader) (entities : ℕ) : Type 0 where
@@ -31,6 +31,9 @@ module _ {p : Reader} {at end : ℕ} {q : Reader} {n : ℕ} (h : Reached p at en
 
     pub inside : end ≤ length q.s.now
     inside = rw bytes (entry_inside p.s.now p.t.now u small at (staged q n) h.come end h.ends l)
+
+    pub fits : q.at + 4 + number_or0 q.s.now q.at ≤ length q.s.now
+    fits = rw bytes (entry_fits p.s.now p.t.now u small at (staged q n) h.come end h.ends l)
 
     pub led : (r : Reader) (m : ℕ) → staged r m ≡ past_entry q.s.now (staged q n) → Leads p.s.now p.t.now end (staged r m)
     led r m e = leads p.s.now p.t.now u small at (staged q n) h.come end h.ends l (staged r m) (e ∙ ap (λ (s : List ℕ). past_entry s (staged q n)) bytes)
